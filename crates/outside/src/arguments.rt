@@ -68,15 +68,16 @@ mod tests {
 
     #[test]
     fn words_come_back_in_their_order(rt: HostRuntime) -> Result<(), Fail> {
+        let all = ["replay", "--receipts"];
         let mut words = ArgList::new(rt.alloc());
         assert!(rt; words.is_empty());
-        for word in ["replay", "--receipts"] {
+        for word in all {
             words.push(word.to_string(rt.alloc())?)?;
         }
         assert_eq!(rt; words.len(), 2);
-        assert_eq!(rt; words.get(0), Some("replay"));
-        assert_eq!(rt; words.get(1), Some("--receipts"));
-        assert_eq!(rt; words.get(2), None);
+        for (place, want) in [Some(all[0]), Some(all[1]), None].iter().enumerate() {
+            assert_eq!(rt; words.get(place), *want);
+        }
         Ok(())
     }
 }

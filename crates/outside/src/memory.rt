@@ -206,16 +206,11 @@ mod tests {
         rt: HostRuntime,
     ) -> Result<(), Fail> {
         let mut source = MemSource::new(rt.alloc(), TEXT, 10, &[3])?;
-        let mut into = [0; 16];
-        assert_eq!(rt; source.read(&mut into), Ok(10));
-        assert_eq!(rt; into.as_slice(), b"netacct 1\n\0\0\0\0\0\0".as_slice());
-        assert_eq!(rt; source.read(&mut into), Ok(10));
-        assert_eq!(rt; source.read(&mut into), Err(Failed));
-        assert_eq!(rt; into.as_slice(), b"section\nla\0\0\0\0\0\0".as_slice());
-        assert_eq!(rt; source.read(&mut into[..4]), Ok(4));
-        assert_eq!(rt; source.read(&mut into), Ok(3));
-        assert_eq!(rt; source.read(&mut into), Ok(0));
-        assert_eq!(rt; into.as_slice(), b"nd\neion\nla\0\0\0\0\0\0".as_slice());
+        let mut into = [0; 12];
+        for want in [Ok(10), Ok(10), Err(Failed), Ok(7), Ok(0)] {
+            assert_eq!(rt; source.read(&mut into), want);
+        }
+        assert_eq!(rt; into, *b"ne\nend\n\nla\0\0");
         Ok(())
     }
 
@@ -224,16 +219,10 @@ mod tests {
         rt: HostRuntime,
     ) -> Result<(), Fail> {
         let mut sink = MemSink::new(rt.alloc(), 20, 16, &[2])?;
-        assert_eq!(rt; sink.write(TEXT), Ok(16));
-        assert_eq!(rt; sink.write(b"la"), Err(Failed));
-        assert_eq!(rt; sink.write(b"la"), Ok(2));
-        assert_eq!(rt;
-            sink.write(b"ne\nend\n"),
-            Ok(2),
-            "there is room for two more"
-        );
-        assert_eq!(rt; sink.write(b"\n"), Err(Failed), "there is no room");
-        assert_eq!(rt; sink.written(), b"netacct 1\nsectiolane".as_slice());
+        for want in [Ok(16), Err(Failed), Ok(4), Err(Failed)] {
+            assert_eq!(rt; sink.write(TEXT), want);
+        }
+        assert_eq!(rt; sink.written(), b"netacct 1\nsectioneta".as_slice());
         Ok(())
     }
 }

@@ -124,7 +124,6 @@ impl<W: Write> Sink for StdSink<W> {
 mod tests {
     use super::*;
     use std::io;
-    use std::test::Fail;
 
     #[derive(Drop)]
     struct Broken;
@@ -136,23 +135,23 @@ mod tests {
     }
 
     #[test]
-    fn a_reader_in_memory_is_passed_on_and_a_broken_one_is_a_fault(rt: HostRuntime) {
+    fn a_reader_is_passed_on_and_its_error_is_a_fault(rt: HostRuntime) {
         let mut source = StdSource::new(b"netacct 1\n".as_slice());
         let mut into = [0; 8];
-        assert_eq!(rt; source.read(&mut into), Ok(8));
-        assert_eq!(rt; into.as_slice(), b"netacct ".as_slice());
-        assert_eq!(rt; source.read(&mut into), Ok(2));
-        assert_eq!(rt; source.read(&mut into), Ok(0));
+        for want in [Ok(8), Ok(2), Ok(0)] {
+            assert_eq!(rt; source.read(&mut into), want);
+        }
+        assert_eq!(rt; into, *b"1\ntacct ");
         assert_eq!(rt; StdSource::new(Broken).read(&mut into), Err(Failed));
     }
 
     #[test]
-    fn a_writer_that_takes_nothing_is_a_fault(rt: HostRuntime) -> Result<(), Fail> {
+    fn a_writer_is_passed_on_and_a_write_of_nothing_is_a_fault(rt: HostRuntime) {
         let mut room = [0; 8];
         let mut sink = StdSink::new(room.as_mut_slice());
-        assert_eq!(rt; sink.write(b"netacct 1\n"), Ok(8));
-        assert_eq!(rt; sink.write(b"1\n"), Err(Failed));
-        assert_eq!(rt; room.as_slice(), b"netacct ".as_slice());
-        Ok(())
+        for want in [Ok(8), Err(Failed)] {
+            assert_eq!(rt; sink.write(b"netacct 1\n"), want);
+        }
+        assert_eq!(rt; room, *b"netacct ");
     }
 }

@@ -89,33 +89,27 @@ mod tests {
     const TEXT: &[u8] = b"netacct 1\nsection\nlane\nend\n";
 
     #[test]
-    fn reading_ends_at_the_end_at_the_bound_or_at_a_fault(rt: HostRuntime) -> Result<(), Fail> {
+    fn all_is_read_unless_a_call_fails(rt: HostRuntime) -> Result<(), Fail> {
         let alloc = rt.alloc();
-        let mut source = MemSource::new(alloc, TEXT, 10, &[])?;
-        assert_eq!(rt; read_all(alloc, &mut source, 100)?.as_slice(), TEXT);
-        let mut source = MemSource::new(alloc, TEXT, 10, &[])?;
-        assert_eq!(rt;
-            read_all(alloc, &mut source, 11)?.as_slice(),
-            b"netacct 1\ns".as_slice()
-        );
-        let mut source = MemSource::new(alloc, TEXT, 10, &[3])?;
-        let failed = read_all(alloc, &mut source, 100);
-        assert!(rt; matches!(&failed, Err(ReadError::Failed)));
-        assert_eq!(rt;
-            read_all(alloc, &mut source, 100)?.as_slice(),
-            b"ne\nend\n".as_slice()
-        );
+        let mut whole = MemSource::new(alloc, TEXT, 10, &[])?;
+        assert_eq!(rt; read_all(alloc, &mut whole, 100)?.as_slice(), TEXT);
+        let mut broken = MemSource::new(alloc, TEXT, 10, &[3])?;
+        assert!(rt; matches!(read_all(alloc, &mut broken, 100), Err(ReadError::Failed)));
         Ok(())
     }
 
     #[test]
-    fn writing_ends_with_all_or_at_a_fault(rt: HostRuntime) -> Result<(), Fail> {
-        let mut sink = MemSink::new(rt.alloc(), 100, 16, &[])?;
-        assert_eq!(rt; write_all(&mut sink, TEXT), Ok(()));
-        assert_eq!(rt; sink.written(), TEXT);
-        let mut sink = MemSink::new(rt.alloc(), 100, 16, &[2])?;
-        assert_eq!(rt; write_all(&mut sink, TEXT), Err(Failed));
-        assert_eq!(rt; sink.written(), b"netacct 1\nsectio".as_slice());
+    fn all_is_written_unless_a_call_fails(rt: HostRuntime) -> Result<(), Fail> {
+        for (fails, want) in [(0, Ok(())), (2, Err(Failed))] {
+            let mut sink = MemSink::new(rt.alloc(), 100, 16, &[fails])?;
+            assert_eq!(rt; write_all(&mut sink, TEXT), want);
+            let written = if want.is_ok() {
+                TEXT
+            } else {
+                b"netacct 1\nsectio"
+            };
+            assert_eq!(rt; sink.written(), written);
+        }
         Ok(())
     }
 }
