@@ -3,8 +3,8 @@ use Rattle.std.specs.Prelude.{ℕ, ◌-◌, ◌==◌, min, Bool, ◌||◌, nat_l
 use Rattle.std.specs.List.{list_any}
 use Rattle.outside.specs.Outside.{counted}
 
--- A source in memory: the bytes that are left, the most that a call gives, the numbers of the calls that fail,
--- and how many calls were made and how many of them failed, as a u64 counts.
+-- A source in memory: the bytes that are left, the most that a call gives, the numbers of the calls
+-- that fail, and how many calls were made and how many of them failed, as a u64 counts.
 pub record Input : Type 0 where
   pub left : List ℕ
   pub piece : ℕ
@@ -12,7 +12,8 @@ pub record Input : Type 0 where
   pub calls : ℕ
   pub faults : ℕ
 
--- A sink in memory: the bytes that it got, how many it has room for in all, and the rest as for a source.
+-- A sink in memory: the bytes that it got, how many it has room for in all, and the rest as for a
+-- source.
 pub record Output : Type 0 where
   pub written : List ℕ
   pub room : ℕ

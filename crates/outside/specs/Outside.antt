@@ -1,4 +1,4 @@
--- What a call may do to a count of faults, to the bytes that a source has left and to those that a sink has got.
+-- What calls do to a count of faults, to the bytes that a source has left, and to those that a sink got.
 use Rattle.std.specs.Prelude.{◌≡◌, ℕ, ◌+◌, ◌-◌, ◌^◌, ◌≤◌, min, List, ◌++◌, length, Option}
 use Rattle.std.specs.Io.KnownBytes.{Appends, Consumes}
 
@@ -11,8 +11,8 @@ abbrev pub Rose : ℕ → ℕ → Type 0
 Rose before now = min (before + 1) (2 ^ 64 - 1) ≤ now
 
 -- A front of what the source tells was read, of at most so many bytes, and no other byte is gone.
-abbrev pub ConsumesUpTo : ℕ → Option (List ℕ) → Option (List ℕ) → Type 0
-ConsumesUpTo most old new = (front : List ℕ) × (length front ≤ most) × Consumes old new front
+abbrev pub ConsumesUpTo : Option (List ℕ) → Option (List ℕ) → ℕ → Type 0
+ConsumesUpTo old new most = (front : List ℕ) × (length front ≤ most) × Consumes old new front
 
 -- A front of the bytes was written, and nothing else.
 abbrev pub AppendsPrefix : Option (List ℕ) → Option (List ℕ) → List ℕ → Type 0

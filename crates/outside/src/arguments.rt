@@ -3,7 +3,8 @@ ghost use Rattle.std.specs.Prelude.{◌≡◌, ◌↔◌, [], ◌∷◌, ◌++�
 use std::alloc::{AllocError, Global};
 use std::marker::Model;
 
-/// The words that a program is called with, without its own name. Contracts see the list of their bytes.
+/// The words that a program is called with, without its own name. Contracts see the list of their
+/// bytes.
 #[derive(Debug, Drop)]
 pub struct ArgList {
     words: Vec<String>,

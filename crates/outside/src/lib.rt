@@ -1,10 +1,10 @@
-//! The outside of the programs: where they read from and write to, and the words that they are called
-//! with.
+//! The outside of the programs: where they read from and write to, and the words that they are
+//! called with.
 //!
-//! A fault of reading or writing is never made up. A source and a sink each have a count of their faults,
-//! which exists in contracts alone for whoever calls them, and an answer that blames one of them comes
-//! only where its count rose in that call. Where a source tells the bytes that it has left, and a sink
-//! those that it got, the contracts name them too.
+//! A fault of reading or writing is never made up. A source and a sink each have a count of their
+//! faults, of which contracts speak, and an answer that blames one of them comes only where its count
+//! rose in that call. Where a source tells the bytes that it has left, and a sink those that it got,
+//! the contracts name them too.
 #![tactic(auto)]
 
 mod arguments;

@@ -7,7 +7,8 @@ use crate::source::{Failed, Source};
 use std::alloc::{AllocError, Global};
 use std::marker::Model;
 
-/// A source over bytes in memory. It gives them in pieces, and fails the calls that it is told to fail.
+/// A source over bytes in memory. It gives them in pieces, and fails the calls that it is told to
+/// fail.
 #[derive(Drop)]
 pub struct MemSource {
     bytes: Vec<u8>,
@@ -96,8 +97,8 @@ impl Source for MemSource {
     }
 }
 
-/// A sink in memory. It takes bytes in pieces, as many as it has room for, and fails the calls that it
-/// is told to fail.
+/// A sink in memory. It takes bytes in pieces, as many as it has room for, and fails the calls that
+/// it is told to fail.
 #[derive(Drop)]
 pub struct MemSink {
     bytes: Vec<u8>,

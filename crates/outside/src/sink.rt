@@ -19,7 +19,8 @@ pub trait Sink {
         requires { 0 < length bytes.now }
         ensures some { IfOk result (λ n. 0 < n) }
         ensures bound { IfOk result (λ n. n ≤ length bytes.now) }
-        ensures bytes { IfOk result (λ n. Appends (written self.old) (written self.new) (take n bytes.now)) }
+        ensures bytes { IfOk result (λ n.
+            Appends (written self.old) (written self.new) (take n bytes.now)) }
         ensures failed { OnErr result (Rose (faults self.old) (faults self.new)) }
         ensures none_written { OnErr result (Keeps (written self.old) (written self.new)) }
         ensures count { faults self.old ≤ faults self.new };

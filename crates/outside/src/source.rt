@@ -20,7 +20,8 @@ pub trait Source {
     /// It fails only where the count of faults rose, and then takes nothing.
     fn read(&mut self, into: &mut [u8]) -> Result<usize, Failed>
         ensures bound { IfOk result (λ n. n ≤ length into.new) }
-        ensures bytes { IfOk result (λ n. Consumes (left self.old) (left self.new) (take n into.new)) }
+        ensures bytes { IfOk result (λ n.
+            Consumes (left self.old) (left self.new) (take n into.new)) }
         ensures end { result ≡ Ok 0 → 0 < length into.old → IsAtEnd (left self.new) }
         ensures failed { OnErr result (Rose (faults self.old) (faults self.new)) }
         ensures none_lost { OnErr result (Keeps (left self.old) (left self.new)) }

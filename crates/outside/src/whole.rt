@@ -37,16 +37,17 @@ impl From<Failed> for ReadError {
 
 /// Reads to the end of the source, or until it has `most` bytes, and gives what was read.
 ///
-/// With fewer than `most` bytes nothing is left. With `most` of them more may be left: ask for one byte
-/// more than is wanted to see that there are too many. After an error the bytes that were read are gone
-/// from the source, and no others.
+/// With fewer than `most` bytes nothing is left. With `most` of them more may be left: ask for one
+/// byte more than is wanted to see that there are too many. After an error the bytes that were read
+/// are gone from the source, and no others.
 pub fn read_all<S: Source>(alloc: Global, source: &mut S, most: usize) -> Result<Vec<u8>, ReadError>
     ensures bytes { IfOk result (λ v. Consumes (S.left source.old) (S.left source.new) v.items) }
     ensures bound { IfOk result (λ v. vec_len v ≤ most) }
     ensures whole { IfOk result (λ v. (vec_len v ≡ most) ⊎ IsAtEnd (S.left source.new)) }
 
-    ensures failed { IsErrOf result ReadError.Failed → Rose (S.faults source.old) (S.faults source.new) }
-    ensures prefix { OnErr result (ConsumesUpTo most (S.left source.old) (S.left source.new)) }
+    ensures failed { IsErrOf result ReadError.Failed →
+        Rose (S.faults source.old) (S.faults source.new) }
+    ensures prefix { OnErr result (ConsumesUpTo (S.left source.old) (S.left source.new) most) }
     ensures count { S.faults source.old ≤ S.faults source.new }
 {
     let mut bytes = Vec::new(alloc);
@@ -69,7 +70,8 @@ pub fn write_all<K: Sink>(sink: &mut K, bytes: &[u8]) -> Result<(), Failed>
     ensures ok { OnOk result (Appends (K.written sink.old) (K.written sink.new) bytes.now) }
 
     ensures failed { OnErr result (Rose (K.faults sink.old) (K.faults sink.new)) }
-    ensures prefix { OnErr result (AppendsPrefix (K.written sink.old) (K.written sink.new) bytes.now) }
+    ensures prefix { OnErr result
+        (AppendsPrefix (K.written sink.old) (K.written sink.new) bytes.now) }
     ensures count { K.faults sink.old ≤ K.faults sink.new }
 {
     let mut rest = bytes;
