@@ -21,13 +21,11 @@ mod verdict;
 
 pub use amount::{Amount, Row, RowList, Snapshot, SnapshotList, TotalList};
 pub use charge::{Charge, ChargeList, Job, WordList};
-pub use entry::{
-    OwnerEntry, TagEntry, DOZABLE, HAPPY, IFACE, PENALTY, POWER_SAVE, STANDBY,
-};
+pub use entry::{DOZABLE, HAPPY, IFACE, OwnerEntry, PENALTY, POWER_SAVE, STANDBY, TagEntry};
 pub use label::{Iface, Label, Tag, Uid};
 pub use laws::{
-    amounts_add_up, appended_rows_add_up, last_write_wins, length_is_charged, true_reads_last,
-    words_keep_entries,
+    amounts_add_up, appended_rows_add_up, compare_labels, last_write_wins, length_is_charged,
+    true_reads_last, words_keep_entries,
 };
 pub use length::scaled;
 pub use list::{ByteList, List, NameList};
@@ -36,3 +34,6 @@ pub use receipt::{IfaceReceipt, LineReceipt, ListReceipt, Mark, Receipt};
 pub use register::{Key, Seen, Write, WriteList};
 pub use sizes::{RegSizes, Sizes};
 pub use verdict::{Match, Settled, Verdict};
+
+#[cfg(test)]
+mod tests;

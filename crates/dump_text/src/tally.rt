@@ -1,0 +1,120 @@
+//! The counts of a dump's second line.
+
+ghost use Rattle.std.specs.Prelude.{◌≡◌, ◌≤◌, ◌++◌, ◌<◌, ◌^◌, IfOk};
+ghost use Rattle.std.specs.List.{flat_map};
+ghost use Rattle.dump_text.specs.Dump.{full_mark, receipts_of, section_receipts};
+ghost use Rattle.dump_text.specs.Tallied.{line_tally, tally, added};
+
+use crate::receipts::ReceiptList;
+use crate::report::{Report, SectionOut};
+use acct_base::{LineReceipt, Mark, Receipt, Verdict};
+use std::alloc::AllocError;
+
+/// How many receipts there are, how many of them passed a packet and how many dropped one, and how many
+/// marks say that a table was full.
+#[derive(Clone, Copy, Debug)]
+pub struct Tally {
+    pub calls: u64,
+    pub passed: u64,
+    pub dropped: u64,
+    pub full: u64,
+}
+
+const NONE: Tally = Tally {
+    calls: 0,
+    passed: 0,
+    dropped: 0,
+    full: 0,
+};
+
+fn full_mark(mark: Option<Mark>) -> u64
+    ensures value { result ≡ full_mark mark }
+    ensures at_most_one { result ≤ 1 }
+{
+    match mark {
+        Some(Mark::Full) => 1,
+        Some(Mark::Landed) | None => 0,
+    }
+}
+
+fn hook_tally(receipt: &Receipt) -> Tally
+    ensures { result ≡ line_tally (LineReceipt.Hook receipt.now) }
+{
+    let full = full_mark(receipt.landed_tag)
+        + full_mark(receipt.landed_plain)
+        + full_mark(receipt.landed_app);
+    match receipt.verdict {
+        Verdict::Pass => Tally {
+            calls: 1,
+            passed: 1,
+            dropped: 0,
+            full,
+        },
+        Verdict::Drop => Tally {
+            calls: 1,
+            passed: 0,
+            dropped: 1,
+            full,
+        },
+    }
+}
+
+fn line_tally(receipt: &LineReceipt) -> Tally
+    ensures { result ≡ line_tally receipt.now }
+{
+    match receipt {
+        LineReceipt::Hook(receipt) => hook_tally(receipt),
+        LineReceipt::Iface(receipt) => Tally {
+            calls: 1,
+            full: full_mark(receipt.landed),
+            ..NONE
+        },
+        LineReceipt::List(_) => Tally { calls: 1, ..NONE },
+    }
+}
+
+// Both together. Where a sum passes its word, memory for the receipts has long run out.
+fn sum_of(a: Tally, b: Tally) -> Result<Tally, AllocError>
+    ensures { IfOk result (λ t. t ≡ added a b) }
+{
+    Ok(Tally {
+        calls: a.calls.checked_add(b.calls).ok_or(AllocError)?,
+        passed: a.passed.checked_add(b.passed).ok_or(AllocError)?,
+        dropped: a.dropped.checked_add(b.dropped).ok_or(AllocError)?,
+        full: a.full.checked_add(b.full).ok_or(AllocError)?,
+    })
+}
+
+fn lane_tally(lane: &ReceiptList) -> Result<Tally, AllocError>
+    ensures { IfOk result (λ t. t ≡ tally lane.now) }
+{
+    let mut sum = NONE;
+    for place in 0..lane.len() {
+        match lane.get(place) {
+            None => return Ok(sum),
+            Some((_, receipt)) => sum = sum_of(sum, line_tally(&receipt))?,
+        }
+    }
+    Ok(sum)
+}
+
+fn section_tally(section: &SectionOut) -> Result<Tally, AllocError>
+    ensures { IfOk result (λ t. t ≡ tally (section_receipts section.now)) }
+{
+    let mut sum = NONE;
+    for lane in section.lanes.as_slice() {
+        sum = sum_of(sum, lane_tally(lane)?)?;
+    }
+    Ok(sum)
+}
+
+/// The tally of all receipts of a report.
+pub fn report_tally(report: &Report) -> Result<Tally, AllocError>
+    ensures { IfOk result (λ t. t ≡ tally (receipts_of report.now)) }
+{
+    let mut sum = NONE;
+    for section in report.sections.as_slice() {
+        sum = sum_of(sum, section_tally(section)?)?;
+    }
+    Ok(sum)
+}

@@ -1,0 +1,35 @@
+//! How the rows of a table are found: a label as two words, and the places that are tried for two words.
+#![tactic(auto)]
+
+mod keys;
+mod laws;
+mod places;
+
+pub use keys::{pack1, pack2, unpack};
+pub use laws::{labels_pack_one_to_one, turns_give_each_place_once};
+pub use places::place;
+
+#[cfg(test)]
+mod tests {
+    use super::*;
+    use acct_base::Label;
+
+    #[test]
+    fn a_label_packs_and_unpacks(rt: HostRuntime) {
+        let label = Label {
+            uid: 10050,
+            tag: 0,
+            set: 0,
+            iface: 2,
+        };
+        assert_eq!(rt; pack1(&label), 10051 * 4294967296);
+        assert_eq!(rt; pack2(&label), 4);
+        assert_eq!(rt; unpack(10051 * 4294967296, 4), Some(label));
+        assert_eq!(rt; unpack(10051 * 4294967296, 1), None);
+    }
+
+    #[test]
+    fn one_row_is_tried_once(rt: HostRuntime) {
+        assert_eq!(rt; place(10051 * 4294967296, 4, 0, 1), 0);
+    }
+}
