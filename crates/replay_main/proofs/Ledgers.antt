@@ -96,6 +96,19 @@ landed_posting {K} cmp o es fs limit ps key more gets count room h =
       within = still_within (length es) (length fs) limit (find es key) count room h.within;
     }
 
+some_there : (a : Amount) → IsSome (Some a)
+some_there a = search rules
+
+-- how many entries a posting at a key adds that is there, or is not
+abbrev more_entries : Option Amount → ℕ
+more_entries r = cond (is_some r) 0 1
+
+known_count : (r : Option Amount) (old : Amount) → Some old ≡ r → more_entries (Some old) ≡ more_entries r
+known_count r old had = ap more_entries had
+
+known_there : (r : Option Amount) (old : Amount) → Some old ≡ r → r ≡ None → ⊥
+known_there r old had none = absurd (let e = had ∙ none in cc)
+
 -- a posting whose amount was added where the key stands
 pub added_there : {K : Type 0} (cmp : K → K → Ordering) (o : IsTotalOrder cmp) (es fs : List (K × Amount)) (limit : ℕ) (ps : List (Posting K)) (key : K) (more old : Amount)
     → Some old ≡ lookup (λ e. is_eq (cmp key e)) es
@@ -103,10 +116,9 @@ pub added_there : {K : Type 0} (cmp : K → K → Ordering) (o : IsTotalOrder cm
     → length fs ≡ length es
     → HoldsPostings cmp es limit ps → HoldsPostings cmp fs limit (ps ++ record { key = key; amount = more; landed = true } ∷ [])
 added_there {K} cmp o es fs limit ps key more old had gets count h =
-    let one : cond (is_some (Some old)) 0 1 ≡ cond (is_some (lookup (λ (e : K). is_eq (cmp key e)) es)) 0 1 = ap {B = ℕ} (λ (r : Option Amount). cond (is_some r) 0 1) had in
     landed_posting cmp o es fs limit ps key more
-    (λ k. gets (subst (λ (r : Option Amount). IsSome r) had (search rules)) k ∙ ap (λ (r : Option Amount). cond (is_eq (cmp key k)) (Some (plus (unwrap_or r zero_amount) more)) (lookup (λ (e : K). is_eq (cmp k e)) es)) had)
-    (omega (arith, count, one)) (λ none. absurd (let e = had ∙ none in cc)) h
+    (λ k. gets (subst (λ (r : Option Amount). IsSome r) had (some_there old)) k ∙ ap (λ (r : Option Amount). cond (is_eq (cmp key k)) (Some (plus (unwrap_or r zero_amount) more)) (lookup (λ (e : K). is_eq (cmp k e)) es)) had)
+    (omega (arith, count, known_count _ old had)) (λ none. absurd (known_there _ old had none)) h
 
 -- a posting that was put at a new key
 pub put_there : {K : Type 0} (cmp : K → K → Ordering) (o : IsTotalOrder cmp) (es fs : List (K × Amount)) (limit : ℕ) (ps : List (Posting K)) (key : K) (more : Amount)

@@ -13,8 +13,8 @@ use Rattle.script_text.specs.declared.line.Line.{Line}
 use Rattle.script_text.specs.declared.line.Line.TheVariants as lines
 use Rattle.script_text.specs.declared.section.Section.{Section}
 use Rattle.script_text.specs.Lines.{IsLine, IsHookLine}
-use Rattle.script_text.specs.Script.{lane_lines, lines_text, section_text, section_calls, header_text, header_counts, counts_after, IsHeader, IsNextSection, IsNextPart, IsPart, AreSections, IsScript, script_text}
-use Rattle.script_text.proofs.Sections.{section_same}
+use Rattle.script_text.specs.Script.{lane_lines, section_text, section_calls, header_text, header_counts, counts_after, IsHeader, IsNextSection, IsNextPart, IsPart, AreSections, IsScript, script_text}
+use Rattle.script_text.proofs.Sections.{section_same, next_part}
 use Rattle.replay_main.specs.Replayed.{LaneFits, SectionFits}
 use Rattle.replay_main.specs.Run.{IsNoScript, WasNoScript}
 
@@ -64,10 +64,6 @@ script_bytes header ss is =
     omega (arith, h, length-append (header_text header) (flat_map section_text ss))
 
 -- ---- texts that are no script
-
-next_part : (ss : List Section) → IsNextPart (flat_map section_text ss)
-next_part [] = inl refl
-next_part (s ∷ ss) = inr (lines_text (flat_map lane_lines s.lanes) ++ flat_map section_text ss, refl)
 
 -- no header stands at the front
 pub no_header : (text : List ℕ) → ((h : Header) → IsHeader h → IsPart (header_text h) text → ⊥) → IsNoScript text

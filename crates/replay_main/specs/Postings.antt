@@ -1,5 +1,5 @@
 -- A ledger and what was posted to it, for the contracts of the replay's parts.
-use Rattle.std.specs.Prelude.{◌≡◌, ℕ, ◌&&◌, Bool, true, false, List, None, IsSome, unwrap_or, length, ◌≤◌}
+use Rattle.std.specs.Prelude.{◌≡◌, ℕ, ◌&&◌, Bool, true, false, List, ◌++◌, ◌∷◌, [], None, IsSome, unwrap_or, length, ◌≤◌}
 use Rattle.std.specs.List.{AllByRecursion, list_any}
 use Rattle.std.specs.Map.{lookup}
 use Rattle.std.specs.Ordering.{is_eq}
@@ -35,3 +35,7 @@ pub record HoldsPostings {K : Type 0} (cmp : K → K → Ordering) (entries : Li
   pub there : (k : K) → IsSome (lookup (λ e. is_eq (cmp k e)) entries) → list_any (posts_at cmp k) ps ≡ true
   pub full : AllByRecursion (FullIsShown cmp entries limit) ps
   pub within : length entries ≤ limit
+
+-- The new entries are the old ones with one posting more, whatever was posted before.
+abbrev pub Posts : {K : Type 0} → (K → K → Ordering) → List (K × Amount) → List (K × Amount) → ℕ → Posting K → Type 0
+Posts {K} cmp old new limit p = (ps : List (Posting K)) → HoldsPostings cmp old limit ps → HoldsPostings cmp new limit (ps ++ p ∷ [])

@@ -2,7 +2,7 @@ ghost use Rattle.std.specs.Prelude.{◌≡◌, ◌++◌, ◌∷◌, [], List, If
 ghost use Rattle.std.specs.BTreeMap.{IsUnchanged};
 ghost use Rattle.acct_base.specs.Amounts.{plus, HasRoom};
 ghost use Rattle.acct_base.specs.Receipts.{is_landed};
-ghost use Rattle.replay_main.specs.Postings.{Posting, HoldsPostings, amount_of};
+ghost use Rattle.replay_main.specs.Postings.{HoldsPostings, Posts, amount_of};
 
 use acct_base::{Amount, Mark};
 use std::alloc::{AllocError, Global};
@@ -30,8 +30,9 @@ impl<K: Ord + Copy> Ledger<K> {
     /// Adds an amount at a key. It is full where the key is new and there are as many keys as there may be.
     pub fn add(&mut self, key: K, more: &Amount) -> Result<Mark, AllocError>
         requires room { HasRoom (plus (amount_of K.cmp self.old.entries.entries key) more.now) }
-        ensures ok { IfOk result (λ mark. (ps : List (Posting K)) → HoldsPostings K.cmp self.old.entries.entries self.old.limit ps
-            → HoldsPostings K.cmp self.new.entries.entries self.old.limit (ps ++ record { key = key; amount = more.now; landed = is_landed mark } ∷ [])) }
+        ensures ok { IfOk result (λ mark.
+            Posts K.cmp self.old.entries.entries self.new.entries.entries self.old.limit
+            (record { key = key; amount = more.now; landed = is_landed mark })) }
         ensures limit { self.new.limit ≡ self.old.limit }
         ensures err { OnErr result (IsUnchanged self.old.entries self.new.entries) }
     {

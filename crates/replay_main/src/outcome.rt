@@ -53,28 +53,36 @@ pub fn run<S: Source, K: Sink>(
     source: &mut S,
     sink: &mut K,
 ) -> Outcome
-    // Without a fault the source was read to its end, what it told was a script, and the sink got the dump of a
-    // report that is honest to it.
+    // Without a fault the source was read to its end, what it told was a script, and the sink got
+    // the dump of a report that is honest to it.
     ensures whole { result.fault ≡ None → IsAtEnd (S.left source.new) }
     ensures honest { result.fault ≡ None → IsSomeAnd result.report (WasReplayed (S.left source.old)) }
-    ensures dump { result.fault ≡ None → IsSomeAnd result.report (λ r. Appends (K.written sink.old) (K.written sink.new) (dump r)) }
+    ensures dump { result.fault ≡ None →
+        IsSomeAnd result.report (λ r. Appends (K.written sink.old) (K.written sink.new) (dump r)) }
 
     // The causes of the faults.
     ensures usage { (result.fault ≡ Some Fault.Usage) ↔ (IsReplay words.now → ⊥) }
-    ensures read_fault { result.fault ≡ Some Fault.ReadFault → Rose (S.faults source.old) (S.faults source.new) }
-    ensures write_fault { result.fault ≡ Some Fault.WriteFault → Rose (K.faults sink.old) (K.faults sink.new) }
-    ensures unbuilt { (line : ℕ) → result.fault ≡ Some (Fault.Unbuilt line) → (line ≡ 1) × WasNoScript (S.left source.old) }
+    ensures read_fault { result.fault ≡ Some Fault.ReadFault →
+        Rose (S.faults source.old) (S.faults source.new) }
+    ensures write_fault { result.fault ≡ Some Fault.WriteFault →
+        Rose (K.faults sink.old) (K.faults sink.new) }
+    ensures unbuilt { (line : ℕ) → result.fault ≡ Some (Fault.Unbuilt line) →
+        (line ≡ 1) × WasNoScript (S.left source.old) }
 
     // Unless memory is wanting, a script is replayed where nothing failed.
-    ensures complete { IsReplay words.now → TellsScript (S.left source.old) → (Rose (S.faults source.old) (S.faults source.new) → ⊥) → (Rose (K.faults sink.old) (K.faults sink.new) → ⊥)
-        → (result.fault ≡ None) ⊎ (result.fault ≡ Some Fault.Memory) }
+    ensures complete { IsReplay words.now → TellsScript (S.left source.old) →
+        (Rose (S.faults source.old) (S.faults source.new) → ⊥) →
+        (Rose (K.faults sink.old) (K.faults sink.new) → ⊥) →
+        (result.fault ≡ None) ⊎ (result.fault ≡ Some Fault.Memory) }
 
     // After a write fault the same was read and replayed, and the sink got a front of the dump.
     ensures whole_then { result.fault ≡ Some Fault.WriteFault → IsAtEnd (S.left source.new) }
-    ensures honest_then { result.fault ≡ Some Fault.WriteFault → IsSomeAnd result.report (WasReplayed (S.left source.old)) }
-    ensures prefix { result.fault ≡ Some Fault.WriteFault → IsSomeAnd result.report (λ r. AppendsPrefix (K.written sink.old) (K.written sink.new) (dump r)) }
+    ensures honest_then { result.fault ≡ Some Fault.WriteFault →
+        IsSomeAnd result.report (WasReplayed (S.left source.old)) }
+    ensures prefix { result.fault ≡ Some Fault.WriteFault →
+        IsSomeAnd result.report (λ r. AppendsPrefix (K.written sink.old) (K.written sink.new) (dump r)) }
 
-    // After every other fault there is no report, and the sink is as it was; other words than `replay` read nothing.
+    // After every other fault there is no report, and the sink is as it was. Other words read nothing.
     ensures untouched { result.report ≡ None → sink.new ≡ sink.old }
     ensures reported { IsSome result.report ↔ HasReport result.fault }
     ensures unread { result.fault ≡ Some Fault.Usage → source.new ≡ source.old }

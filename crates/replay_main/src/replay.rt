@@ -86,7 +86,8 @@ impl Replay {
         requires room { HasRoomFor self.old 1 }
         ensures obeys { IfOk result (λ r. Obeys (hook_call call.now) r) }
         ensures unwritten { IfOk result (λ r. IsUnwritten r) }
-        ensures counts { IfOk result (λ r. Counts self.old self.new ((Hook (hook_call call.now), LineReceipt.Hook r) ∷ []) 1) }
+        ensures counts { IfOk result (λ r.
+            Counts self.old self.new ((Hook (hook_call call.now), LineReceipt.Hook r) ∷ []) 1) }
     {
         let uid = call.sock_uid;
         if uid == CLAT {
@@ -158,7 +159,8 @@ impl Replay {
         requires fits { LaneFits lane.now }
         requires room { HasRoomFor self.old (length lane.now) }
         ensures first { IfOk result (λ given. LaneIsFirst (lane_calls lane.now) given) }
-        ensures counts { IfOk result (λ given. Counts self.old self.new (lane_pairs (lane_calls lane.now) given) (length lane.now)) }
+        ensures counts { IfOk result (λ given.
+            Counts self.old self.new (lane_pairs (lane_calls lane.now) given) (length lane.now)) }
     {
         let mut receipts = ReceiptList::new(alloc);
         for place in 0..lane.len() {
@@ -178,7 +180,8 @@ impl Replay {
         requires fits { SectionFits section.now }
         requires room { HasRoomFor self.old (section_calls section.now) }
         ensures first { IfOk result (λ out. SectionIsFirst (calls_of section.now) out) }
-        ensures counts { IfOk result (λ out. Counts self.old self.new (section_pairs (calls_of section.now) out) (section_calls section.now)) }
+        ensures counts { IfOk result (λ out.
+            Counts self.old self.new (section_pairs (calls_of section.now) out) (section_calls section.now)) }
     {
         let mut lanes = LaneList::new(alloc);
         for lane in section.lanes.as_slice() {
@@ -193,7 +196,8 @@ impl Replay {
         requires fits { All SectionFits script.now }
         requires room { HasRoomFor self.old (sum_by section_calls script.now) }
         ensures first { IfOk result (λ outs. AllZip SectionIsFirst (map calls_of script.now) outs) }
-        ensures counts { IfOk result (λ outs. Counts self.old self.new (all_pairs (map calls_of script.now) outs) (sum_by section_calls script.now)) }
+        ensures counts { IfOk result (λ outs.
+            Counts self.old self.new (all_pairs (map calls_of script.now) outs) (sum_by section_calls script.now)) }
     {
         let mut sections = SectionList::new(alloc);
         for section in script {

@@ -30,7 +30,8 @@ const TOO_MANY: usize = MOST_BYTES as usize + 1;
 fn parse(alloc: Global, text: &[u8]) -> Result<Script, Fault>
     ensures script { IfOk result (λ s. IsScript s.header s.sections) }
     ensures spelled { IfOk result (λ s. text.now ≡ script_text s.header s.sections) }
-    ensures unbuilt { (line : ℕ) → IsErrOf result (Fault.Unbuilt line) → (line ≡ 1) × IsNoScript text.now }
+    ensures unbuilt { (line : ℕ) → IsErrOf result (Fault.Unbuilt line) →
+        (line ≡ 1) × IsNoScript text.now }
     ensures faults { IfErr result IsParsingFault }
 {
     let (header, counts) = parse_header(alloc, text)?;
@@ -52,8 +53,10 @@ pub fn script_of<S: Source>(alloc: Global, source: &mut S) -> Result<Script, Fau
     ensures script { IfOk result (λ s. IsScript s.header s.sections) }
     ensures spelled { IfOk result (λ s. Consumes (S.left source.old) (S.left source.new) (script_text s.header s.sections)) }
     ensures end { OnOk result (IsAtEnd (S.left source.new)) }
-    ensures read_fault { IsErrOf result Fault.ReadFault → Rose (S.faults source.old) (S.faults source.new) }
-    ensures unbuilt { (line : ℕ) → IsErrOf result (Fault.Unbuilt line) → (line ≡ 1) × WasNoScript (S.left source.old) }
+    ensures read_fault { IsErrOf result Fault.ReadFault →
+        Rose (S.faults source.old) (S.faults source.new) }
+    ensures unbuilt { (line : ℕ) → IsErrOf result (Fault.Unbuilt line) →
+        (line ≡ 1) × WasNoScript (S.left source.old) }
     ensures faults { IfErr result IsReadingFault }
     ensures count { S.faults source.old ≤ S.faults source.new }
 {

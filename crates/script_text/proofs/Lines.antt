@@ -143,14 +143,14 @@ number_same : (least most a b : ℕ) → IsWithin least most a → IsWithin leas
 number_same least most a b p q lt e = decimal_injective a b (omega (arith, p.most_is)) (omega (arith, q.most_is)) e
 
 hook_same : (g h : HookLine) → IsHookLine g → IsHookLine h → hook_fields g ≡ hook_fields h → g ≡ h
-hook_same (hooks.Hook d f u i l c b) (hooks.Hook d2 f2 u2 i2 l2 c2 b2) p q e =
-    let dir : d ≡ d2 = dir_same d d2 (cc) in
-    let uid : u ≡ u2 = number_same _ _ u u2 p.uid q.uid (omega arith) (cc) in
-    let cookie : c ≡ c2 = number_same _ _ c c2 p.any_cookie q.any_cookie (omega arith) (cc) in
-    let iface : i ≡ i2 = number_same _ _ i i2 p.some_iface q.some_iface (omega arith) (cc) in
-    let family : f ≡ f2 = p.v4 ∙ sym q.v4 in
-    let len : l ≡ l2 = number_same _ _ l l2 p.some_len q.some_len (omega arith) (cc) in
-    let head : b ≡ b2 = p.no_head ∙ sym q.no_head in
+hook_same (hooks.Hook d f u i l c b) (hooks.Hook d' f' u' i' l' c' b') p q e =
+    let dir : d ≡ d' = dir_same d d' (cc) in
+    let uid : u ≡ u' = number_same _ _ u u' p.uid q.uid (omega arith) (cc) in
+    let cookie : c ≡ c' = number_same _ _ c c' p.any_cookie q.any_cookie (omega arith) (cc) in
+    let iface : i ≡ i' = number_same _ _ i i' p.some_iface q.some_iface (omega arith) (cc) in
+    let family : f ≡ f' = p.v4 ∙ sym q.v4 in
+    let len : l ≡ l' = number_same _ _ l l' p.some_len q.some_len (omega arith) (cc) in
+    let head : b ≡ b' = p.no_head ∙ sym q.no_head in
     rw (dir, uid, cookie, iface, family, len, head) refl
 hook_same (hooks.Hook d f u i l c b) (hooks.Packet dir uid iface index cookie) p q e = absurd q
 hook_same (hooks.Hook d f u i l c b) (hooks.Iface call) p q e = absurd q

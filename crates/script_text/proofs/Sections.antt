@@ -6,11 +6,12 @@ use Rattle.std.proofs.lemmas.List.{append-nil, map-append, length-map}
 use Rattle.script_text.specs.declared.hook_line.HookLine.{HookLine}
 use Rattle.script_text.specs.declared.line.Line.{Line}
 use Rattle.script_text.specs.declared.line.Line.TheVariants as lines
+use Rattle.script_text.specs.declared.header.Header.{Header}
 use Rattle.script_text.specs.declared.section.Section.{Section}
 use Rattle.script_text.specs.declared.draft.Draft.{Draft}
 use Rattle.script_text.specs.declared.limits.Counts.{Counts}
 use Rattle.script_text.specs.Lines.{IsLine, IsHookLine, spelled}
-use Rattle.script_text.specs.Script.{lines_text, lane_lines, section_text, AreNumbered, LanesAreNumbered, IsSection, IsNextPart, IsPart, IsNextSection, IsWithinLimits, counts_after, section_calls}
+use Rattle.script_text.specs.Script.{lines_text, lane_lines, section_text, AreNumbered, LanesAreNumbered, IsSection, IsNextPart, IsPart, IsNextSection, IsWithinLimits, counts_after, section_calls, header_counts, AreSections, IsScript, script_text}
 use Rattle.script_text.specs.Drafts.{lane_part, draft_lines, LaneIsNumbered, IsDraft, may_follow, InOrder, GoesOnWithNoLine, NoSectionStands, HasRoom}
 use Rattle.script_text.proofs.Lines.{same_first, line_then, bare}
 
@@ -159,6 +160,33 @@ section_same s t rest other p q first next stop e =
     (split_lines (flat_map lane_lines s.lanes) (flat_map lane_lines t.lanes) rest other p.fits.1 q.fits.1 inner.1) in
     let lanes : s.lanes ≡ t.lanes = lanes_same (s.first + 1) s.lanes t.lanes p.one_lane q.one_lane p.numbered (subst (λ (n : ℕ). LanesAreNumbered (n + 1) t.lanes) (sym first) q.numbered) same.0 in
     (λ i. record { first = first i; lanes = lanes i }, same.1)
+
+-- ---- scripts with the same text are the same
+
+-- behind a section stands the next one, or nothing
+pub next_part : (ss : List Section) → IsNextPart (flat_map section_text ss)
+next_part [] = inl refl
+next_part (s ∷ ss) = inr (lines_text (flat_map lane_lines s.lanes) ++ flat_map section_text ss, refl)
+
+some_text : (s : Section) (more : List ℕ) → section_text s ++ more ≡ [] → ⊥
+some_text s more e = absurd (let z = ap length e in omega arith)
+
+cons_sections : (s t : Section) (ss ts : List Section) → s ≡ t → ss ≡ ts → s ∷ ss ≡ t ∷ ts
+cons_sections s t ss ts p q = rw (p, q) refl
+
+sections_same : (before : Counts) (ss ts : List Section) → AreSections before ss → AreSections before ts → flat_map section_text ss ≡ flat_map section_text ts → ss ≡ ts
+sections_same before [] [] p q e = refl
+sections_same before [] (t ∷ ts) p q e = absurd (some_text t (flat_map section_text ts) (sym e))
+sections_same before (s ∷ ss) [] p q e = absurd (some_text s (flat_map section_text ss) e)
+sections_same before (s ∷ ss) (t ∷ ts) p q e =
+    let one = section_same s t (flat_map section_text ss) (flat_map section_text ts) p.0.section q.0.section (p.0.first ∙ sym q.0.first) (next_part ss) (next_part ts) e in
+    cons_sections s t ss ts one.0 (sections_same (counts_after before s) ss ts p.1 (subst (λ (u : Section). AreSections (counts_after before u) ts) (sym one.0) q.1) one.1)
+
+pub script_same : (header other : Header) (ss ts : List Section) → IsScript header ss → IsScript other ts → script_text header ss ≡ script_text other ts → (header ≡ other) × (ss ≡ ts)
+script_same header other ss ts p q e =
+    let sizes : header.sizes ≡ other.sizes = p.header_is ∙ sym q.header_is in
+    let behind : flat_map section_text ss ≡ flat_map section_text ts = cc in
+    (λ i. record { sizes = sizes i }, sections_same (header_counts header) ss ts p.sections_are q.sections_are behind)
 
 -- ---- no section stands where the next line does not fit
 

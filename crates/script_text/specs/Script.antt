@@ -110,6 +110,14 @@ IsNextPart rest = (rest ≡ []) ⊎ BeginsSection rest
 abbrev pub IsPart : List ℕ → List ℕ → Type 0
 IsPart text bytes = (rest : List ℕ) × (bytes ≡ text ++ rest) × IsNextPart rest
 
+-- No header stands at the front of the bytes.
+abbrev pub NoHeaderStands : List ℕ → Type 0
+NoHeaderStands bytes = (h : Header) → IsHeader h → IsPart (header_text h) bytes → ⊥
+
+-- No section stands there that may stand behind what these counts are of.
+abbrev pub NoSectionFollows : Counts → List ℕ → Type 0
+NoSectionFollows before bytes = (s : Section) → IsNextSection before s → IsPart (section_text s) bytes → ⊥
+
 -- ---- the whole
 
 -- Sections one after another, behind what these counts are of.

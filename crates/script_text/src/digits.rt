@@ -85,8 +85,10 @@ fn is_plain(digits: &[u8]) -> bool
 /// The number of at most `most` that the first field is, in decimal without a leading zero, and what stands
 /// behind the field's space. None where the field is no such number.
 pub fn number_field(rest: &[u8], most: u64) -> Option<(u64, Option<&[u8]>)>
-    ensures found { IfSome result (λ p. (p.0 ≤ most) × (parts 32 rest.now ≡ decimal p.0 ∷ fields_left (option_copied p.1))) }
-    ensures none { IfNone result ((n : ℕ) (more : List (List ℕ)) → n ≤ most → parts 32 rest.now ≢ decimal n ∷ more) }
+    ensures found { IfSome result (λ p. (p.0 ≤ most) ×
+        (parts 32 rest.now ≡ decimal p.0 ∷ fields_left (option_copied p.1))) }
+    ensures none { IfNone result ((n : ℕ) (more : List (List ℕ)) → n ≤ most →
+        parts 32 rest.now ≢ decimal n ∷ more) }
 {
     match digits(rest, most) {
         None => None,

@@ -11,7 +11,8 @@ use std::marker::Model;
 
 /// What stands behind this front, where the bytes begin with it.
 pub fn after<'a>(bytes: &'a [u8], front: &[u8]) -> Option<&'a [u8]>
-    ensures { MatchOption result ((rest : List ℕ) → bytes.now ≢ front.now ++ rest) (λ rest. bytes.now ≡ front.now ++ rest.now) }
+    ensures { MatchOption result ((rest : List ℕ) → bytes.now ≢ front.now ++ rest)
+        (λ rest. bytes.now ≡ front.now ++ rest.now) }
 {
     bytes.strip_prefix(front)
 }
@@ -88,7 +89,8 @@ impl<'a> Fields<'a> {
     /// Takes the next field, which is a number from `least` to `most` in decimal without a leading zero.
     pub fn number(&mut self, least: u64, most: u64) -> Result<u64, LineFault>
         ensures found { IfOk result (λ n. IsWithin least most n × (self.old ≡ decimal n ∷ self.new)) }
-        ensures syntax { OnErr result ((n : ℕ) (more : List (List ℕ)) → IsWithin least most n → self.old ≢ decimal n ∷ more) }
+        ensures syntax { OnErr result ((n : ℕ) (more : List (List ℕ)) → IsWithin least most n →
+            self.old ≢ decimal n ∷ more) }
         ensures fault { IfErr result (λ e. e ≡ LineFault.Syntax) }
     {
         match self.rest {

@@ -1,6 +1,5 @@
 ghost use Rattle.std.specs.Prelude.{◌≡◌, ◌≤◌, ℕ, IfOk, IsErrOf, IsTrue, IsFalse, ◌<◌, length};
-ghost use Rattle.script_text.specs.declared.header.Header.{Header as HeaderOf};
-ghost use Rattle.script_text.specs.Script.{IsHeader, header_counts, header_text, IsWithinLimits, IsPart, IsNextPart, default_sizes};
+ghost use Rattle.script_text.specs.Script.{IsHeader, header_counts, header_text, IsWithinLimits, IsPart, NoHeaderStands, IsNextPart, default_sizes};
 
 use crate::fault::{ScriptFault, UNBUILT};
 use crate::fields::after;
@@ -47,7 +46,8 @@ pub fn parse_header(alloc: Global, bytes: &[u8]) -> Result<(Header, Counts), Scr
     ensures counts { IfOk result (λ p. p.1 ≡ header_counts p.0) }
     ensures limits { IfOk result (λ p. IsWithinLimits p.1) }
     ensures spelled { IfOk result (λ p. IsPart (header_text p.0) bytes.now) }
-    ensures unbuilt { (line : ℕ) → IsErrOf result (ScriptFault.Unbuilt line) → (line ≡ 1) × ((h : HeaderOf) → IsHeader h → IsPart (header_text h) bytes.now → ⊥) }
+    ensures unbuilt { (line : ℕ) → IsErrOf result (ScriptFault.Unbuilt line) →
+        (line ≡ 1) × NoHeaderStands bytes.now }
 {
     let (line, rest) = first_line(alloc, bytes)?;
     match line {

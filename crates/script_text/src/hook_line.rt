@@ -114,7 +114,8 @@ impl HookLineList {
 /// The line of a hook, behind the word for its direction.
 pub fn hook_line(alloc: Global, dir: Dir, fields: &mut Fields<'_>) -> Result<HookLine, LineFault>
     ensures found { IfOk result (λ h. IsHookLine h × (hook_word dir ∷ fields.old ≡ hook_fields h)) }
-    ensures syntax { IsErrOf result LineFault.Syntax → (h : HookLine) → IsHookLine h → hook_word dir ∷ fields.old ≢ hook_fields h }
+    ensures syntax { IsErrOf result LineFault.Syntax → (h : HookLine) → IsHookLine h →
+        hook_word dir ∷ fields.old ≢ hook_fields h }
 {
     let sock_uid = fields.number(0, MOST_UID)? as u32;
     let cookie = fields.number(0, u64::MAX)?;

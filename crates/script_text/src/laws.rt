@@ -1,8 +1,9 @@
 //! Laws of the definitions. Each is the contract of a function with nothing to do.
 
-ghost use Rattle.script_text.specs.Laws.{SectionIsReadOnce};
+ghost use Rattle.script_text.specs.Laws.{SectionIsReadOnce, ScriptIsReadOnce};
 
-/// A text is the spelling of one section at most, up to where the next begins.
+/// A text has one reading at most: as a section up to where the next begins, and as a whole script.
 pub fn one_reading()
-    ensures { SectionIsReadOnce }
+    ensures sections { SectionIsReadOnce }
+    ensures scripts { ScriptIsReadOnce }
 {}

@@ -30,7 +30,8 @@ impl Line {
     /// What a line says, without its line feed.
     pub fn parse(alloc: Global, text: &[u8]) -> Result<Line, LineFault>
         ensures found { IfOk result (λ l. IsLine l × (parts 32 text.now ≡ line_fields l)) }
-        ensures syntax { IsErrOf result LineFault.Syntax → (l : Line) → IsLine l → parts 32 text.now ≢ line_fields l }
+        ensures syntax { IsErrOf result LineFault.Syntax → (l : Line) → IsLine l →
+            parts 32 text.now ≢ line_fields l }
     {
         let mut fields = Fields::of(text);
         let Some(word) = fields.next() else {

@@ -1,6 +1,5 @@
 ghost use Rattle.std.specs.Prelude.{◌≡◌, ◌+◌, ◌<◌, ◌≤◌, ◌↔◌, ◌^◌, ◌∷◌, ◌++◌, ℕ, List, length, IfOk, IsErrOf, IsTrue, sum_by, codes};
-ghost use Rattle.script_text.specs.declared.section.Section.{Section as SectionOf};
-ghost use Rattle.script_text.specs.Script.{IsSection, section_text, section_calls, counts_after, IsWithinLimits, IsPart, IsNextPart, IsNextSection, BeginsSection, section_lines};
+ghost use Rattle.script_text.specs.Script.{IsSection, section_text, section_calls, counts_after, IsWithinLimits, IsPart, IsNextPart, IsNextSection, BeginsSection, NoSectionFollows, section_lines};
 ghost use Rattle.script_text.specs.Drafts.{NoSectionStands, HasRoom};
 
 use crate::draft::Draft;
@@ -42,7 +41,8 @@ pub fn parse_section(
     ensures section { IfOk result (λ p. IsNextSection before.now p.0) }
     ensures counts { IfOk result (λ p. p.1 ≡ counts_after before.now p.0) }
     ensures spelled { IfOk result (λ p. IsPart (section_text p.0) bytes.now) }
-    ensures unbuilt { (line : ℕ) → IsErrOf result (ScriptFault.Unbuilt line) → (line ≡ 1) × ((s : SectionOf) → IsNextSection before.now s → IsPart (section_text s) bytes.now → ⊥) }
+    ensures unbuilt { (line : ℕ) → IsErrOf result (ScriptFault.Unbuilt line) →
+        (line ≡ 1) × NoSectionFollows before.now bytes.now }
 {
     let (_, behind) = bytes.split_at(SECTION_LINE.len());
     let (section, lines, rest) = read_section(alloc, before.lines + 1, behind)?;
@@ -93,7 +93,8 @@ fn read_section(alloc: Global, first: u64, bytes: &[u8]) -> Result<(Section, u64
     ensures few { IfOk result (λ p. p.1 ≤ length bytes.now + 1) }
     ensures spelled { IfOk result (λ p. codes "section\n" ++ bytes.now ≡ section_text p.0 ++ p.2.now) }
     ensures rest { IfOk result (λ p. IsNextPart p.2.now) }
-    ensures syntax { IsErrOf result LineFault.Syntax → NoSectionStands (codes "section\n" ++ bytes.now) }
+    ensures syntax { IsErrOf result LineFault.Syntax →
+        NoSectionStands (codes "section\n" ++ bytes.now) }
 {
     let mut draft = Draft { first, lane: None };
     let mut rest = bytes;
