@@ -1,0 +1,11 @@
+pub mod Counts
+pub mod Distinct
+pub mod Finds
+pub mod Journal
+pub mod Origins
+pub mod Places
+pub mod Registers
+pub mod Rule
+pub mod SeatOfReader
+pub mod SeatOfWriter
+pub mod Seats

@@ -1,0 +1,12 @@
+pub mod DistinctLemmas
+pub mod Members
+pub mod Spots
+pub mod Keeps
+pub mod Lookups
+pub mod SeatLemmas
+pub mod Counts
+pub mod Tries
+pub mod ShownLemmas
+pub mod ReadLemmas
+pub mod KnownLemmas
+pub mod EndLemmas

@@ -1,0 +1,14 @@
+-- What an add answers.
+use Rattle.std.specs.Prelude.{ℕ, ◌<◌, Bool, true, false}
+use Rattle.total_rows.specs.declared.totals.Landed.{Landed}
+use Rattle.total_rows.specs.declared.totals.Landed.TheVariants.{Row, Full}
+
+-- The add landed.
+abbrev pub is_row : Landed → Bool
+is_row (Row row) = true
+is_row Full = false
+
+-- The row is one of so many.
+abbrev pub IsBelow : ℕ → Landed → Type 0
+IsBelow rows (Row row) = row < rows
+IsBelow rows Full = Unit {0}

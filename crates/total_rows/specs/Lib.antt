@@ -1,0 +1,13 @@
+pub mod Rows
+pub mod Sums
+pub mod Rule
+pub mod Plays
+pub mod Distinct
+pub mod Shown
+pub mod Seats
+pub mod SeatInside
+pub mod TotalsInside
+pub mod SeatSteps
+pub mod Answers
+pub mod ReadSteps
+pub mod Closed
