@@ -18,6 +18,7 @@ pub fn after<'a>(bytes: &'a [u8], front: &[u8]) -> Option<&'a [u8]>
 }
 
 /// What stands before the first line feed, and what stands behind it.
+#[inline(always)]
 pub fn cut_line(bytes: &[u8]) -> Option<(&[u8], &[u8])>
     ensures found { IfSome result (λ p. bytes.now ≡ p.0.now ++ 10 ∷ p.1.now) }
     ensures first { IfSome result (λ p. Lacks p.0.now 10) }
@@ -87,6 +88,7 @@ impl<'a> Fields<'a> {
     }
 
     /// Takes the next field, which is a number from `least` to `most` in decimal without a leading zero.
+    #[inline(always)]
     pub fn number(&mut self, least: u64, most: u64) -> Result<u64, LineFault>
         ensures found { IfOk result (λ n. IsWithin least most n × (self.old ≡ decimal n ∷ self.new)) }
         ensures syntax { OnErr result ((n : ℕ) (more : List (List ℕ)) → IsWithin least most n →
@@ -109,6 +111,7 @@ impl<'a> Fields<'a> {
     }
 
     /// Takes the next field, which is this word.
+    #[inline(always)]
     pub fn word(&mut self, word: &[u8]) -> Result<(), LineFault>
         ensures found { OnOk result (self.old ≡ word.now ∷ self.new) }
         ensures syntax { OnErr result ((more : List (List ℕ)) → self.old ≢ word.now ∷ more) }

@@ -112,6 +112,7 @@ impl HookLineList {
 }
 
 /// The line of a hook, behind the word for its direction.
+#[inline(always)]
 pub fn hook_line(alloc: Global, dir: Dir, fields: &mut Fields<'_>) -> Result<HookLine, LineFault>
     ensures found { IfOk result (λ h. IsHookLine h × (hook_word dir ∷ fields.old ≡ hook_fields h)) }
     ensures syntax { IsErrOf result LineFault.Syntax → (h : HookLine) → IsHookLine h →

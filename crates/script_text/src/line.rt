@@ -28,6 +28,7 @@ pub enum Line {
 
 impl Line {
     /// What a line says, without its line feed.
+    #[inline(always)]
     pub fn parse(alloc: Global, text: &[u8]) -> Result<Line, LineFault>
         ensures found { IfOk result (λ l. IsLine l × (parts 32 text.now ≡ line_fields l)) }
         ensures syntax { IsErrOf result LineFault.Syntax → (l : Line) → IsLine l →
@@ -59,6 +60,7 @@ impl Line {
 }
 
 /// The line with which a text begins, and what stands behind its line feed.
+#[inline(always)]
 pub fn first_line(alloc: Global, text: &[u8]) -> Result<(Line, &[u8]), LineFault>
     ensures found { IfOk result (λ p. IsLine p.0 × (text.now ≡ spelled p.0 ++ p.1.now)) }
     ensures syntax { IsErrOf result LineFault.Syntax → BeginsWithNoLine text.now }
