@@ -87,6 +87,12 @@ fn read_all(regs: &Regs, mut reader: Reader) -> bool
     true
 }
 
+// Takes what may go to another thread, and nothing else.
+fn goes_to_threads<T: Send>(_value: &T) {}
+
+// Takes what threads may share, and nothing else.
+fn is_shared_by_threads<T: Sync>(_value: &T) {}
+
 #[test]
 fn a_reader_reads_while_the_writer_writes(rt: HostRuntime) -> Result<(), Fail> {
     let limits = RegSizes {
@@ -94,6 +100,9 @@ fn a_reader_reads_while_the_writer_writes(rt: HostRuntime) -> Result<(), Fail> {
         ..SMALL
     };
     let (regs, writer, reader) = Regs::new(rt.alloc(), &limits)?;
+    is_shared_by_threads(&regs);
+    goes_to_threads(&writer);
+    goes_to_threads(&reader);
     let shared = &regs;
     let (writer, is_true) = thread::join(
         &rt,
