@@ -85,3 +85,21 @@ fn lists_grow_at_the_end(rt: HostRuntime) -> Result<(), AllocError> {
     );
     Ok(())
 }
+
+#[test]
+fn blocks_make_one_list(rt: HostRuntime) -> Result<(), AllocError> {
+    let mut list: BlockList<u32> = BlockList::new(rt.alloc());
+    assert!(rt; list.is_empty());
+    for item in 0..2_050 {
+        list.push(item)?;
+    }
+    assert_eq!(rt; (list.len(), list.is_empty()), (2_050, false));
+    for place in [0, 1_023, 1_024, 2_047, 2_048, 2_049] {
+        assert_eq!(rt; list.get(place).copied(), Some(place as u32));
+    }
+    assert_eq!(rt; list.get(2_050).copied(), None);
+    let blocks = list.into_blocks()?;
+    assert_eq!(rt; blocks.len(), 3);
+    assert_eq!(rt; blocks.get(2).map(|block| block.len()), Some(2));
+    Ok(())
+}
