@@ -1,5 +1,5 @@
 -- What a kept receipt says.
-use Rattle.std.specs.Prelude.{ℕ, Option, Some, None, Bool, true, false}
+use Rattle.std.specs.Prelude.{◌≡◌, ℕ, ◌<◌, ◌++◌, Option, Some, None, IfSome, Bool, true, false, List, length, slice_get, unwrap_or}
 use Rattle.acct_base.specs.declared.label.Label.{Label}
 use Rattle.acct_base.specs.declared.register.Seen.{Seen}
 use Rattle.acct_base.specs.declared.receipt.Receipt.{Receipt}
@@ -14,6 +14,7 @@ use Rattle.dump_text.specs.declared.kept.Read.{Read}
 use Rattle.dump_text.specs.declared.kept.Read.TheVariants.{Missing, Empty, Full}
 use Rattle.dump_text.specs.declared.kept.Place.{Place}
 use Rattle.dump_text.specs.declared.kept.Place.TheVariants.{Nowhere, There, NoRoom}
+use Rattle.dump_text.specs.declared.kept.Found.{Found}
 use Rattle.dump_text.specs.declared.kept.Kept.{Kept}
 
 -- A read that may not have been made.
@@ -43,14 +44,14 @@ abbrev pub label_again : Bool → ℕ → ℕ → ℕ → ℕ → Option Label
 label_again true uid tag set iface = Some (record { uid = uid; tag = tag; set = set; iface = iface })
 label_again false uid tag set iface = None
 
--- The receipt of a hook.
-abbrev pub hook_again : Kept → Receipt
-hook_again k = record {
+-- The receipt of a hook, whose reads found this.
+abbrev pub hook_again : Found → Kept → Receipt
+hook_again f k = record {
   front = k.front;
-  tag_read = seen_again (read_again k.tag_read k.tag_version k.tag_value);
-  rules_read = read_again k.rules_read k.rules_version k.rules_value;
-  owner_read = read_again k.owner_read k.owner_version k.owner_value;
-  set_read = read_again k.set_read k.set_version k.set_value;
+  tag_read = seen_again (read_again k.tag_read f.tag_version f.tag_value);
+  rules_read = read_again k.rules_read f.rules_version f.rules_value;
+  owner_read = read_again k.owner_read f.owner_version f.owner_value;
+  set_read = read_again k.set_read f.set_version f.set_value;
   phase = phase_again k.has_phase k.phase;
   label = label_again k.is_counted k.uid k.tag k.set k.iface;
   verdict = k.verdict;
@@ -60,32 +61,63 @@ hook_again k = record {
 }
 
 -- The receipt of the program that gave it.
-abbrev pub receipt_again : Program → Kept → LineReceipt
-receipt_again program.Hook k = line.Hook (hook_again k)
-receipt_again program.Iface k = line.Iface (record { matched = k.is_counted; landed = mark_again k.landed_plain })
-receipt_again program.List k = line.List (record { front = k.front; owner_read = read_again k.owner_read k.owner_version k.owner_value; matched = k.is_counted })
+abbrev pub receipt_again : Program → Found → Kept → LineReceipt
+receipt_again program.Hook f k = line.Hook (hook_again f k)
+receipt_again program.Iface f k = line.Iface (record { matched = k.is_counted; landed = mark_again k.landed_plain })
+receipt_again program.List f k = line.List (record { front = k.front; owner_read = read_again k.owner_read f.owner_version f.owner_value; matched = k.is_counted })
 
 -- The line and its receipt.
-abbrev pub kept_again : Kept → ℕ × LineReceipt
-kept_again k = (k.line, receipt_again k.program k)
+abbrev pub line_again : Found → Kept → ℕ × LineReceipt
+line_again f k = (k.line, receipt_again k.program f k)
+
+-- What reads find of registers that no command wrote.
+abbrev pub nothing_found : Found
+nothing_found = record {
+  tag_value = 0;
+  rules_value = 0;
+  owner_value = 0;
+  set_value = 0;
+  tag_version = 0;
+  rules_version = 0;
+  owner_version = 0;
+  set_version = 0;
+}
+
+-- What stands at a place.
+abbrev pub found_at : List Found → Option ℕ → Found
+found_at found None = nothing_found
+found_at found (Some place) = unwrap_or (slice_get found place) nothing_found
+
+-- What the reads of a receipt found, of all that was found.
+abbrev pub found_by : List Found → Kept → Found
+found_by found k = found_at found k.found
+
+-- The line and its receipt, where this is all that was found.
+abbrev pub kept_again : List Found → Kept → ℕ × LineReceipt
+kept_again found k = line_again (found_by found k) k
+
+-- What the reads of a receipt found has its place there.
+abbrev pub IsFoundIn : List Found → Kept → Type 0
+IsFoundIn found k = IfSome k.found (λ place. place < length found)
+
+-- This was found at that place.
+abbrev pub IsThere : List Found → Option ℕ → Found → Type 0
+IsThere found place f = (found_at found place ≡ f) × IfSome place (λ p. p < length found)
+
+-- More was found, and the rest stayed in its place.
+abbrev pub Grew : List Found → List Found → Type 0
+Grew old new = (more : List Found) × (new ≡ old ++ more)
 
 -- A receipt of which only the line, the program and its match are kept.
 abbrev pub other_kept : ℕ → Program → Bool → Kept
 other_kept n p matched = record {
   line = n;
-  tag_value = 0;
-  rules_value = 0;
-  owner_value = 0;
-  set_value = 0;
   front = 0;
-  tag_version = 0;
-  rules_version = 0;
-  owner_version = 0;
-  set_version = 0;
   phase = 0;
   uid = 0;
   tag = 0;
   iface = 0;
+  found = None;
   set = 0;
   program = p;
   tag_read = Missing;

@@ -1,8 +1,9 @@
-//! A receipt as a lane keeps it: 88 bytes, since a lane keeps a million of them. Its fields stand side by
-//! side, the wide ones first, with one byte for each read or mark that may be missing.
+//! A receipt as a lane keeps it: 48 bytes, since a lane keeps a million of them. Its fields stand side by
+//! side, the wide ones first, with one byte for each read or mark that may be missing. What its reads found
+//! stands apart, since most reads find a register that no command wrote.
 
 ghost use Rattle.std.specs.Prelude.{◌≡◌};
-ghost use Rattle.dump_text.specs.Kept.{read_again, seen_again, mark_again, phase_again, label_again, hook_again, other_kept, kept_again};
+ghost use Rattle.dump_text.specs.Kept.{read_again, seen_again, mark_again, phase_again, label_again, hook_again, other_kept, line_again};
 
 use acct_base::{IfaceReceipt, Label, LineReceipt, ListReceipt, Mark, Receipt, Seen, Verdict};
 
@@ -30,23 +31,30 @@ pub enum Place {
     NoRoom,
 }
 
-/// A line's receipt. `is_counted` says of a hook that it gave a label, and of the others that they matched.
-#[derive(Clone, Copy, Debug)]
-pub struct Kept {
-    pub line: u64,
+/// The values and versions that a receipt's reads found, 0 where a read found none.
+#[derive(Clone, Copy, Debug, PartialEq, Eq)]
+pub struct Found {
     pub tag_value: u64,
     pub rules_value: u64,
     pub owner_value: u64,
     pub set_value: u64,
-    pub front: u32,
     pub tag_version: u32,
     pub rules_version: u32,
     pub owner_version: u32,
     pub set_version: u32,
+}
+
+/// A line's receipt, without what its reads found. `found` is the place where that stands, None where it is
+/// nothing. `is_counted` says of a hook that it gave a label, and of the others that they matched.
+#[derive(Clone, Copy, Debug)]
+pub struct Kept {
+    pub line: u64,
+    pub front: u32,
     pub phase: u32,
     pub uid: u32,
     pub tag: u32,
     pub iface: u32,
+    pub found: Option<u32>,
     pub set: u8,
     pub program: Program,
     pub tag_read: Read,
@@ -60,6 +68,18 @@ pub struct Kept {
     pub landed_plain: Place,
     pub landed_app: Place,
 }
+
+/// What reads find of registers that no command wrote.
+pub const NOTHING: Found = Found {
+    tag_value: 0,
+    rules_value: 0,
+    owner_value: 0,
+    set_value: 0,
+    tag_version: 0,
+    rules_version: 0,
+    owner_version: 0,
+    set_version: 0,
+};
 
 const NOT_SEEN: Seen = Seen {
     version: 0,
@@ -160,8 +180,8 @@ fn kept_label(is_counted: bool, label: Label) -> Option<Label>
     if is_counted { Some(label) } else { None }
 }
 
-fn keep_hook(line: u64, receipt: &Receipt) -> Kept
-    ensures { kept_again result ≡ (line, LineReceipt.Hook receipt.now) }
+fn keep_hook(line: u64, receipt: &Receipt) -> (Kept, Found)
+    ensures { line_again result.1 result.0 ≡ (line, LineReceipt.Hook receipt.now) }
 {
     let (tag_read, tag_version, tag_value) = read_of(Some(receipt.tag_read));
     let (rules_read, rules_version, rules_value) = read_of(receipt.rules_read);
@@ -169,21 +189,24 @@ fn keep_hook(line: u64, receipt: &Receipt) -> Kept
     let (set_read, set_version, set_value) = read_of(receipt.set_read);
     let (has_phase, phase) = phase_of(receipt.phase);
     let (is_counted, label) = label_of(receipt.label);
-    Kept {
-        line,
+    let found = Found {
         tag_value,
         rules_value,
         owner_value,
         set_value,
-        front: receipt.front,
         tag_version,
         rules_version,
         owner_version,
         set_version,
+    };
+    let kept = Kept {
+        line,
+        front: receipt.front,
         phase,
         uid: label.uid,
         tag: label.tag,
         iface: label.iface,
+        found: None,
         set: label.set,
         program: Program::Hook,
         tag_read,
@@ -196,7 +219,8 @@ fn keep_hook(line: u64, receipt: &Receipt) -> Kept
         landed_tag: place_of(receipt.landed_tag),
         landed_plain: place_of(receipt.landed_plain),
         landed_app: place_of(receipt.landed_app),
-    }
+    };
+    (kept, found)
 }
 
 // The receipt of a program that counts for no uid.
@@ -205,19 +229,12 @@ fn keep_other(line: u64, program: Program, matched: bool) -> Kept
 {
     Kept {
         line,
-        tag_value: 0,
-        rules_value: 0,
-        owner_value: 0,
-        set_value: 0,
         front: 0,
-        tag_version: 0,
-        rules_version: 0,
-        owner_version: 0,
-        set_version: 0,
         phase: 0,
         uid: 0,
         tag: 0,
         iface: 0,
+        found: None,
         set: 0,
         program,
         tag_read: Read::Missing,
@@ -233,31 +250,38 @@ fn keep_other(line: u64, program: Program, matched: bool) -> Kept
     }
 }
 
-/// The receipt of a line, as it is kept.
-pub fn keep(line: u64, receipt: &LineReceipt) -> Kept
-    ensures { kept_again result ≡ (line, receipt.now) }
+/// The receipt of a line, as it is kept, and what its reads found, for which no place is set yet.
+pub fn keep(line: u64, receipt: &LineReceipt) -> (Kept, Found)
+    ensures { line_again result.1 result.0 ≡ (line, receipt.now) }
 {
     match receipt {
         LineReceipt::Hook(receipt) => keep_hook(line, receipt),
-        LineReceipt::Iface(receipt) => Kept {
-            landed_plain: place_of(receipt.landed),
-            ..keep_other(line, Program::Iface, receipt.matched)
-        },
+        LineReceipt::Iface(receipt) => {
+            let kept = Kept {
+                landed_plain: place_of(receipt.landed),
+                ..keep_other(line, Program::Iface, receipt.matched)
+            };
+            (kept, NOTHING)
+        }
         LineReceipt::List(receipt) => {
             let (owner_read, owner_version, owner_value) = read_of(receipt.owner_read);
-            Kept {
+            let kept = Kept {
                 front: receipt.front,
                 owner_read,
+                ..keep_other(line, Program::List, receipt.matched)
+            };
+            let found = Found {
                 owner_version,
                 owner_value,
-                ..keep_other(line, Program::List, receipt.matched)
-            }
+                ..NOTHING
+            };
+            (kept, found)
         }
     }
 }
 
-fn hook_of(kept: &Kept) -> Receipt
-    ensures { result ≡ hook_again kept.now }
+fn hook_of(kept: &Kept, found: &Found) -> Receipt
+    ensures { result ≡ hook_again found.now kept.now }
 {
     let label = Label {
         uid: kept.uid,
@@ -267,10 +291,10 @@ fn hook_of(kept: &Kept) -> Receipt
     };
     Receipt {
         front: kept.front,
-        tag_read: made_read(seen_of(kept.tag_read, kept.tag_version, kept.tag_value)),
-        rules_read: seen_of(kept.rules_read, kept.rules_version, kept.rules_value),
-        owner_read: seen_of(kept.owner_read, kept.owner_version, kept.owner_value),
-        set_read: seen_of(kept.set_read, kept.set_version, kept.set_value),
+        tag_read: made_read(seen_of(kept.tag_read, found.tag_version, found.tag_value)),
+        rules_read: seen_of(kept.rules_read, found.rules_version, found.rules_value),
+        owner_read: seen_of(kept.owner_read, found.owner_version, found.owner_value),
+        set_read: seen_of(kept.set_read, found.set_version, found.set_value),
         phase: kept_phase(kept.has_phase, kept.phase),
         label: kept_label(kept.is_counted, label),
         verdict: kept.verdict,
@@ -280,19 +304,19 @@ fn hook_of(kept: &Kept) -> Receipt
     }
 }
 
-/// The line and the receipt that were kept.
-pub fn line_of(kept: &Kept) -> (u64, LineReceipt)
-    ensures { result ≡ kept_again kept.now }
+/// The line and its receipt, where this is what the receipt's reads found.
+pub fn line_of(kept: &Kept, found: &Found) -> (u64, LineReceipt)
+    ensures { result ≡ line_again found.now kept.now }
 {
     let receipt = match kept.program {
-        Program::Hook => LineReceipt::Hook(hook_of(kept)),
+        Program::Hook => LineReceipt::Hook(hook_of(kept, found)),
         Program::Iface => LineReceipt::Iface(IfaceReceipt {
             matched: kept.is_counted,
             landed: mark_of(kept.landed_plain),
         }),
         Program::List => LineReceipt::List(ListReceipt {
             front: kept.front,
-            owner_read: seen_of(kept.owner_read, kept.owner_version, kept.owner_value),
+            owner_read: seen_of(kept.owner_read, found.owner_version, found.owner_value),
             matched: kept.is_counted,
         }),
     };

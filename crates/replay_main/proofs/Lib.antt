@@ -1,6 +1,7 @@
 pub mod Lists
 pub mod Ledgers
 pub mod Hooks
+pub mod Taken
 pub mod Walks
 pub mod Tables
 pub mod FirstLanes

@@ -1,9 +1,9 @@
 -- Lists that grow at the end.
-use Rattle.std.proofs.Common.{◌≡◌, ℕ, ◌+◌, ◌<◌, ◌≤◌, ◌||◌, Bool, true, false, List, [], ◌∷◌, ◌++◌, length, map, get_or, take, drop, refl, sym, ap, ◌∙◌, arith}
+use Rattle.std.proofs.Common.{◌≡◌, ℕ, ◌+◌, ◌≤◌, ◌||◌, Bool, true, false, List, [], ◌∷◌, ◌++◌, length, map, get_or, refl, subst, ap, ◌∙◌, arith}
 use Rattle.std.specs.Prelude.{zip, sum_by}
-use Rattle.std.specs.List.{AllByRecursion, AllZip, list_any, flat_map}
+use Rattle.std.specs.List.{All, AllByRecursion, AllZip, list_any, flat_map}
 use Rattle.std.proofs.lemmas.Grind.{flat_map-append}
-use Rattle.std.proofs.lemmas.List.{append-nil, take_more, take-append-drop}
+use Rattle.std.proofs.lemmas.List.{append-nil, get_or_append_left, get_or-append-add, length-append}
 use Rattle.std.proofs.lemmas.List.Sums.{sum_by-append}
 
 or_true : (a b : Bool) → b ≡ true → (a || b) ≡ true
@@ -35,12 +35,15 @@ pub all_map : {A : Type 0} (P Q : A → Type 0) (xs : List A) → ((x : A) → P
 all_map P Q [] f h = tt
 all_map P Q (y ∷ xs) f h = (f y h.0, all_map P Q xs f h.1)
 
--- one more pair
+-- more pairs, and one more
+pub all_zip_append : {A B : Type 0} (R : A → B → Type 0) (xs : List A) (ys : List B) (us : List A) (vs : List B) → AllZip R xs ys → AllZip R us vs → AllZip R (xs ++ us) (ys ++ vs)
+all_zip_append R [] [] us vs h more = more
+all_zip_append R [] (b ∷ ys) us vs h more = absurd h
+all_zip_append R (a ∷ xs) [] us vs h more = absurd h
+all_zip_append R (a ∷ xs) (b ∷ ys) us vs h more = (h.0, all_zip_append R xs ys us vs h.1 more)
+
 pub all_zip_push : {A B : Type 0} (R : A → B → Type 0) (xs : List A) (ys : List B) (x : A) (y : B) → AllZip R xs ys → R x y → AllZip R (xs ++ x ∷ []) (ys ++ y ∷ [])
-all_zip_push R [] [] x y h r = (r, tt)
-all_zip_push R [] (b ∷ ys) x y h r = absurd h
-all_zip_push R (a ∷ xs) [] x y h r = absurd h
-all_zip_push R (a ∷ xs) (b ∷ ys) x y h r = (h.0, all_zip_push R xs ys x y h.1 r)
+all_zip_push R xs ys x y h r = all_zip_append R xs ys (x ∷ []) (y ∷ []) h (r, tt)
 
 pub all_zip_length : {A B : Type 0} (R : A → B → Type 0) (xs : List A) (ys : List B) → AllZip R xs ys → length ys ≡ length xs
 all_zip_length R [] [] h = refl
@@ -65,15 +68,22 @@ pub flat_zip_push : {A B C : Type 0} (f : A × B → List C) (xs : List A) (ys :
 flat_zip_push {A} {B} {C} f xs ys x y e =
     ap (flat_map f) (zip_push xs ys x y e) ∙ flat_map-append f (zip xs ys) ((x, y) ∷ []) ∙ ap (λ (cs : List C). flat_map f (zip xs ys) ++ cs) (append-nil (f (x, y)))
 
-pub zip_map_push : {A B X Y : Type 0} (f : X → A) (g : Y → B) (xs : List X) (ys : List Y) (x : X) (y : Y) → length ys ≡ length xs → zip (map f (xs ++ x ∷ [])) (map g (ys ++ y ∷ [])) ≡ zip (map f xs) (map g ys) ++ (f x, g y) ∷ []
-zip_map_push f g [] [] x y e = refl
-zip_map_push f g [] (b ∷ ys) x y e = absurd (omega (arith, e))
-zip_map_push f g (a ∷ xs) [] x y e = absurd (omega (arith, e))
-zip_map_push {A} {B} f g (a ∷ xs) (b ∷ ys) x y e = ap (λ (zs : List (A × B)). (f a, g b) ∷ zs) (zip_map_push f g xs ys x y (omega (arith, e)))
+pub zip_map_append : {A B X Y : Type 0} (f : X → A) (g : Y → B) (xs : List X) (ys : List Y) (us : List X) (vs : List Y) → length ys ≡ length xs → zip (map f (xs ++ us)) (map g (ys ++ vs)) ≡ zip (map f xs) (map g ys) ++ zip (map f us) (map g vs)
+zip_map_append f g [] [] us vs e = refl
+zip_map_append f g [] (b ∷ ys) us vs e = absurd (omega (arith, e))
+zip_map_append f g (a ∷ xs) [] us vs e = absurd (omega (arith, e))
+zip_map_append {A} {B} f g (a ∷ xs) (b ∷ ys) us vs e = ap (λ (zs : List (A × B)). (f a, g b) ∷ zs) (zip_map_append f g xs ys us vs (omega (arith, e)))
+
+-- what holds of all items holds of those in the middle, and of each
+pub all_between : {A : Type 0} (P : A → Type 0) (xs ys zs all : List A) → all ≡ xs ++ (ys ++ zs) → All P all → All P ys
+all_between {A} P xs ys zs all is h k d lt =
+    let there : get_or all (length xs + k) d ≡ get_or ys k d = ap (λ (l : List A). get_or l (length xs + k) d) is ∙ get_or-append-add xs (ys ++ zs) k d ∙ get_or_append_left ys zs d k lt in
+    subst P there (h (length xs + k) d (omega (arith, lt, ap length is, length-append xs (ys ++ zs), length-append ys zs)))
+
+pub all_at : {A : Type 0} (P : A → Type 0) (xs : List A) (x : A) (zs all : List A) → all ≡ xs ++ x ∷ zs → All P all → P x
+all_at P xs x zs all is h = all_between P xs (x ∷ []) zs all is h 0 x (omega arith)
 
 -- there is room for one item's number among those of all
-pub room_at : {A : Type 0} (calls : A → ℕ) (xs : List A) (i : ℕ) (x : A) → i < length xs → x ≡ get_or xs i x → sum_by calls (take i xs) + calls x ≤ sum_by calls xs
-room_at {A} calls xs i x lt is =
-    let taken : take (i + 1) xs ≡ take i xs ++ x ∷ [] = take_more xs i x lt ∙ ap (λ (y : A). take i xs ++ y ∷ []) (sym is) in
-    let whole : sum_by calls xs ≡ sum_by calls (take (i + 1) xs) + sum_by calls (drop (i + 1) xs) = ap (sum_by calls) (sym (take-append-drop (i + 1) xs)) ∙ sum_by-append calls (take (i + 1) xs) (drop (i + 1) xs) in
-    omega (arith, ap (sum_by calls) taken, sum_by-append calls (take i xs) (x ∷ []), whole)
+pub room_at : {A : Type 0} (calls : A → ℕ) (xs : List A) (x : A) (zs all : List A) → all ≡ xs ++ x ∷ zs → sum_by calls xs + calls x ≤ sum_by calls all
+room_at calls xs x zs all is =
+    omega (arith, ap (sum_by calls) is, sum_by-append calls xs (x ∷ zs), sum_by-append calls (x ∷ []) zs)

@@ -3,7 +3,7 @@ use Rattle.std.proofs.Common.{◌≡◌, ℕ, ◌+◌, List, [], ◌∷◌, ◌+
 use Rattle.std.specs.Prelude.{sum_by}
 use Rattle.std.specs.List.{AllZip, flat_map}
 use Rattle.std.proofs.lemmas.Grind.{flat_map-append}
-use Rattle.std.proofs.lemmas.List.{append-nil, map-append}
+use Rattle.std.proofs.lemmas.List.{append-nil, map-append, length-append}
 use Rattle.std.proofs.lemmas.List.Sums.{sum_by-append}
 use Rattle.acct_base.specs.declared.charge.Charge.{Charge}
 use Rattle.acct_base.specs.declared.receipt.LineReceipt.{LineReceipt}
@@ -14,8 +14,8 @@ use Rattle.script_text.specs.Script.{section_calls}
 use Rattle.dump_text.specs.declared.report.SectionOut.{SectionOut}
 use Rattle.replay_main.specs.declared.replay.Replay.{Replay}
 use Rattle.replay_main.specs.Honest.{line_calls, lane_calls, calls_of, second, lane_pairs, section_pairs, all_pairs}
-use Rattle.replay_main.specs.Replayed.{HasCounted, Counts, ObeysFirst, AnswersLine, LaneIsFirst, SectionIsFirst}
-use Rattle.replay_main.proofs.Lists.{all_zip_push, all_zip_length, flat_zip_push, zip_map_push}
+use Rattle.replay_main.specs.Replayed.{HasCounted, Counts, ObeysFirst, AnswersLine, AnswersLines, LaneIsFirst, SectionIsFirst}
+use Rattle.replay_main.proofs.Lists.{all_zip_append, all_zip_push, all_zip_length, flat_zip_push, zip_map_append}
 
 -- nothing was done
 pub counts_nothing : (replay : Replay) → Counts replay replay [] 0
@@ -39,22 +39,45 @@ counts_then old mid new ps qs all m n whole is count first then = rw (is, count)
 
 -- ---- a lane
 
-calls_push : (xs : List (ℕ × HookLine)) (x : ℕ × HookLine) (call : Call) → line_calls x ≡ (x.0, call) ∷ [] → lane_calls (xs ++ x ∷ []) ≡ lane_calls xs ++ (x.0, call) ∷ []
-calls_push xs x call is = flat_map-append line_calls xs (x ∷ []) ∙ ap (λ (cs : List (ℕ × Call)). lane_calls xs ++ cs) (append-nil (line_calls x) ∙ is)
+pub no_lines : (replay : Replay) (before : List (ℕ × LineReceipt)) → AnswersLines replay replay [] before before
+no_lines replay before = record {
+  given = [];
+  behind = sym (append-nil before);
+  first = tt;
+  counts = counts_nothing replay;
+}
 
-pub lane_first : (xs zs : List (ℕ × HookLine)) (ys ws : List (ℕ × LineReceipt)) (x : ℕ × HookLine) (old new : Replay) (r : LineReceipt) → zs ≡ xs ++ x ∷ [] → ws ≡ ys ++ (x.0, r) ∷ [] → LaneIsFirst (lane_calls xs) ys → AnswersLine old new x.1 r
-    → LaneIsFirst (lane_calls zs) ws
-lane_first xs zs ys ws x old new r is also first answer =
-    rw (is, also, calls_push xs x answer.call (answer.is x.0))
-    (all_zip_push (λ (c : ℕ × Call) (s : ℕ × LineReceipt). (s.0 ≡ c.0) × ObeysFirst c.1 s.1) (lane_calls xs) ys (x.0, answer.call) (x.0, r) first (refl, answer.obeys))
+pub one_line : (old new : Replay) (x : ℕ × HookLine) (r : LineReceipt) (before after : List (ℕ × LineReceipt)) → AnswersLine old new x.1 r → after ≡ before ++ (x.0, r) ∷ [] → AnswersLines old new (x ∷ []) before after
+one_line old new x r before after answer behind =
+    let calls : lane_calls (x ∷ []) ≡ (x.0, answer.call) ∷ [] = append-nil (line_calls x) ∙ answer.is x.0 in
+    record {
+      given = (x.0, r) ∷ [];
+      behind = behind;
+      first = subst (λ (cs : List (ℕ × Call)). LaneIsFirst cs ((x.0, r) ∷ [])) (sym calls) ((refl, answer.obeys), tt);
+      counts = subst (λ (cs : List (ℕ × Call)). Counts old new (lane_pairs cs ((x.0, r) ∷ [])) 1) (sym calls) answer.counts;
+    }
 
-pub lane_counts : (xs zs : List (ℕ × HookLine)) (ys ws : List (ℕ × LineReceipt)) (x : ℕ × HookLine) (start old new : Replay) (r : LineReceipt) (place : ℕ) → zs ≡ xs ++ x ∷ [] → ws ≡ ys ++ (x.0, r) ∷ [] → LaneIsFirst (lane_calls xs) ys → AnswersLine old new x.1 r
-    → Counts start old (lane_pairs (lane_calls xs) ys) place → Counts start new (lane_pairs (lane_calls zs) ws) (place + 1)
-lane_counts xs zs ys ws x start old new r place is also first answer counts =
-    let same = all_zip_length (λ (c : ℕ × Call) (s : ℕ × LineReceipt). (s.0 ≡ c.0) × ObeysFirst c.1 s.1) (lane_calls xs) ys first in
-    let pairs : lane_pairs (lane_calls zs) ws ≡ lane_pairs (lane_calls xs) ys ++ (answer.call, r) ∷ [] =
-    rw (is, also, calls_push xs x answer.call (answer.is x.0)) (zip_map_push second second (lane_calls xs) ys (x.0, answer.call) (x.0, r) same) in
-    counts_then start old new (lane_pairs (lane_calls xs) ys) ((answer.call, r) ∷ []) (lane_pairs (lane_calls zs) ws) place 1 (place + 1) pairs refl counts answer.counts
+pub more_lines : (old mid new : Replay) (xs ys all : List (ℕ × HookLine)) (before between after : List (ℕ × LineReceipt)) → all ≡ xs ++ ys → AnswersLines old mid xs before between → AnswersLines mid new ys between after
+    → AnswersLines old new all before after
+more_lines old mid new xs ys all before between after is one two =
+    let fits : ℕ × Call → ℕ × LineReceipt → Type 0 = λ c s. (s.0 ≡ c.0) × ObeysFirst c.1 s.1 in
+    let same = all_zip_length fits (lane_calls xs) one.given one.first in
+    let pairs : lane_pairs (lane_calls all) (one.given ++ two.given) ≡ lane_pairs (lane_calls xs) one.given ++ lane_pairs (lane_calls ys) two.given =
+    rw (is, flat_map-append line_calls xs ys) (zip_map_append second second (lane_calls xs) one.given (lane_calls ys) two.given same) in
+    record {
+      given = one.given ++ two.given;
+      behind = two.behind ∙ ap (λ (l : List (ℕ × LineReceipt)). l ++ two.given) one.behind ∙ append_assoc before one.given two.given;
+      first = rw (is, flat_map-append line_calls xs ys) (all_zip_append fits (lane_calls xs) one.given (lane_calls ys) two.given one.first two.first);
+      counts = counts_then old mid new (lane_pairs (lane_calls xs) one.given) (lane_pairs (lane_calls ys) two.given) (lane_pairs (lane_calls all) (one.given ++ two.given)) (length xs) (length ys) (length all) pairs
+          (ap length is ∙ length-append xs ys) one.counts two.counts;
+    }
+
+-- the receipts of a whole lane
+pub lane_first : (old new : Replay) (lane : List (ℕ × HookLine)) (receipts : List (ℕ × LineReceipt)) → AnswersLines old new lane [] receipts → LaneIsFirst (lane_calls lane) receipts
+lane_first old new lane receipts all = subst (LaneIsFirst (lane_calls lane)) (sym all.behind) all.first
+
+pub lane_counts : (old new : Replay) (lane : List (ℕ × HookLine)) (receipts : List (ℕ × LineReceipt)) → AnswersLines old new lane [] receipts → Counts old new (lane_pairs (lane_calls lane) receipts) (length lane)
+lane_counts old new lane receipts all = subst (λ (given : List (ℕ × LineReceipt)). Counts old new (lane_pairs (lane_calls lane) given) (length lane)) (sym all.behind) all.counts
 
 -- ---- a section, and a script
 

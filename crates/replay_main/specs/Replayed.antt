@@ -18,7 +18,7 @@ use Rattle.script_text.specs.declared.section.Section.{Section}
 use Rattle.script_text.specs.Lines.{IsHookLine}
 use Rattle.dump_text.specs.declared.report.SectionOut.{SectionOut}
 use Rattle.replay_main.specs.declared.replay.Replay.{Replay}
-use Rattle.replay_main.specs.Honest.{line_calls}
+use Rattle.replay_main.specs.Honest.{line_calls, lane_calls, lane_pairs}
 use Rattle.replay_main.specs.Postings.{Posting, HoldsPostings}
 
 -- ---- the tables
@@ -102,6 +102,14 @@ pub record AnswersLine (old new : Replay) (l : HookLine) (r : LineReceipt) : Typ
 abbrev pub LaneIsFirst : List (ℕ × Call) → List (ℕ × LineReceipt) → Type 0
 LaneIsFirst calls receipts = AllZip (λ (c : ℕ × Call) (r : ℕ × LineReceipt). (r.0 ≡ c.0) × ObeysFirst c.1 r.1) calls receipts
 
+-- Lines made their calls, and their receipts were put behind those that were there before.
+pub record AnswersLines (old new : Replay) (lines : List (ℕ × HookLine)) (before after : List (ℕ × LineReceipt)) : Type 0 where
+  pub given : List (ℕ × LineReceipt)
+  pub behind : after ≡ before ++ given
+  pub first : LaneIsFirst (lane_calls lines) given
+  pub counts : Counts old new (lane_pairs (lane_calls lines) given) (length lines)
+
+-- One receipt for each call of each lane of a section.
 abbrev pub SectionIsFirst : List (List (ℕ × Call)) → SectionOut → Type 0
 SectionIsFirst calls out = AllZip LaneIsFirst calls out.lanes
 

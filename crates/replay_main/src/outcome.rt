@@ -7,7 +7,7 @@ ghost use Rattle.replay_main.specs.Faults.{status_of, HasReport};
 
 use crate::fault::Fault;
 use crate::replay::report;
-use crate::script::script_of;
+use crate::script::{Script, script_of};
 use dump_text::{DumpFault, Report, write_dump};
 use outside::{ArgList, Sink, Source};
 use std::alloc::Global;
@@ -92,11 +92,11 @@ pub fn run<S: Source, K: Sink>(
     if !is_replay(words) {
         return without_report(Fault::Usage);
     }
-    let script = match script_of(alloc, source) {
+    let Script { header, sections } = match script_of(alloc, source) {
         Ok(script) => script,
         Err(fault) => return without_report(fault),
     };
-    let report = match report(alloc, &script.header, script.sections.as_slice()) {
+    let report = match report(alloc, &header, sections) {
         Ok(report) => report,
         Err(_) => return without_report(Fault::Memory),
     };

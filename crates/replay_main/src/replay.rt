@@ -1,6 +1,6 @@
 //! The replay of a script on ordered maps, call by call.
 
-ghost use Rattle.std.specs.Prelude.{◌≡◌, ◌≤◌, ◌<◌, ◌^◌, [], ◌∷◌, List, All, length, map, sum_by, IfOk, None, Some, nat_lt, if◌then◌else◌};
+ghost use Rattle.std.specs.Prelude.{◌≡◌, ◌≤◌, ◌<◌, ◌^◌, [], ◌∷◌, List, All, length, map, sum_by, IfOk, OnOk, None, Some, nat_lt, if◌then◌else◌};
 ghost use Rattle.std.specs.List.{AllZip};
 ghost use Rattle.std.specs.Ordering.{nat_cmp};
 ghost use Rattle.std.specs.List.Sorted.{IsStrictlySortedBy};
@@ -10,8 +10,8 @@ ghost use Rattle.acct_base.specs.Receipts.Call.{Hook};
 ghost use Rattle.acct_base.specs.declared.sizes.Sizes.{Sizes as SizesOf};
 ghost use Rattle.script_text.specs.Lines.{IsHookLine};
 ghost use Rattle.script_text.specs.Script.{section_calls, IsScript};
-ghost use Rattle.replay_main.specs.Honest.{lane_calls, calls_of, lane_pairs, section_pairs, all_pairs, IsHonest};
-ghost use Rattle.replay_main.specs.Replayed.{IsPlainCall, IsUnwritten, HasCounted, HasRoomFor, Counts, AnswersLine, LaneIsFirst, SectionIsFirst, LaneFits, SectionFits, row_of};
+ghost use Rattle.replay_main.specs.Honest.{calls_of, section_pairs, all_pairs, IsHonest};
+ghost use Rattle.replay_main.specs.Replayed.{IsPlainCall, IsUnwritten, HasCounted, HasRoomFor, Counts, AnswersLine, AnswersLines, SectionIsFirst, LaneFits, SectionFits, row_of};
 
 use crate::ledger::Ledger;
 use acct_base::{
@@ -154,37 +154,48 @@ impl Replay {
         }
     }
 
-    // Makes the calls of a lane, in order. After an `Err` they may be done in part.
-    fn lane(&mut self, alloc: Global, lane: &HookLineList) -> Result<ReceiptList, AllocError>
-        requires fits { LaneFits lane.now }
-        requires room { HasRoomFor self.old (length lane.now) }
-        ensures first { IfOk result (λ given. LaneIsFirst (lane_calls lane.now) given) }
-        ensures counts { IfOk result (λ given.
-            Counts self.old self.new (lane_pairs (lane_calls lane.now) given) (length lane.now)) }
+    // Makes the calls of some lines of a lane, in order, and puts their receipts behind those of the lines
+    // before. After an `Err` they may be done in part.
+    fn lines(
+        &mut self,
+        lines: &[(u64, HookLine)],
+        receipts: &mut ReceiptList,
+    ) -> Result<(), AllocError>
+        requires fits { LaneFits lines.now }
+        requires room { HasRoomFor self.old (length lines.now) }
+        ensures { OnOk result (AnswersLines self.old self.new lines.now receipts.old receipts.new) }
+    {
+        for line in lines {
+            let receipt = self.line(&line.1)?;
+            receipts.push((line.0, receipt))?;
+        }
+        Ok(())
+    }
+
+    // Makes the calls of a lane, in order. The memory of its lines becomes free block by block, and so serves
+    // for the receipts. After an `Err` the calls may be done in part.
+    fn lane(&mut self, alloc: Global, lane: HookLineList) -> Result<ReceiptList, AllocError>
+        requires fits { LaneFits lane }
+        requires room { HasRoomFor self.old (length lane) }
+        ensures { IfOk result (λ receipts. AnswersLines self.old self.new lane [] receipts) }
     {
         let mut receipts = ReceiptList::new(alloc);
-        for place in 0..lane.len() {
-            match lane.get(place) {
-                None => return Ok(receipts),
-                Some(line) => {
-                    let receipt = self.line(&line.1)?;
-                    receipts.push((line.0, receipt))?;
-                }
-            }
+        for block in lane.into_blocks()? {
+            self.lines(block.as_slice(), &mut receipts)?;
         }
         Ok(receipts)
     }
 
     // Replays the lanes of a section, in order. After an `Err` they may be done in part.
-    fn section(&mut self, alloc: Global, section: &Section) -> Result<SectionOut, AllocError>
-        requires fits { SectionFits section.now }
-        requires room { HasRoomFor self.old (section_calls section.now) }
-        ensures first { IfOk result (λ out. SectionIsFirst (calls_of section.now) out) }
+    fn section(&mut self, alloc: Global, section: Section) -> Result<SectionOut, AllocError>
+        requires fits { SectionFits section }
+        requires room { HasRoomFor self.old (section_calls section) }
+        ensures first { IfOk result (λ out. SectionIsFirst (calls_of section) out) }
         ensures counts { IfOk result (λ out.
-            Counts self.old self.new (section_pairs (calls_of section.now) out) (section_calls section.now)) }
+            Counts self.old self.new (section_pairs (calls_of section) out) (section_calls section)) }
     {
         let mut lanes = LaneList::new(alloc);
-        for lane in section.lanes.as_slice() {
+        for lane in section.lanes.into_vec() {
             let receipts = self.lane(alloc, lane)?;
             lanes.push(receipts)?;
         }
@@ -192,15 +203,15 @@ impl Replay {
     }
 
     // Replays sections, in order. After an `Err` they may be done in part.
-    fn sections(&mut self, alloc: Global, script: &[Section]) -> Result<SectionList, AllocError>
-        requires fits { All SectionFits script.now }
-        requires room { HasRoomFor self.old (sum_by section_calls script.now) }
-        ensures first { IfOk result (λ outs. AllZip SectionIsFirst (map calls_of script.now) outs) }
+    fn sections(&mut self, alloc: Global, script: List<Section>) -> Result<SectionList, AllocError>
+        requires fits { All SectionFits script }
+        requires room { HasRoomFor self.old (sum_by section_calls script) }
+        ensures first { IfOk result (λ outs. AllZip SectionIsFirst (map calls_of script) outs) }
         ensures counts { IfOk result (λ outs.
-            Counts self.old self.new (all_pairs (map calls_of script.now) outs) (sum_by section_calls script.now)) }
+            Counts self.old self.new (all_pairs (map calls_of script) outs) (sum_by section_calls script)) }
     {
         let mut sections = SectionList::new(alloc);
-        for section in script {
+        for section in script.into_vec() {
             let out = self.section(alloc, section)?;
             sections.push(out)?;
         }
@@ -238,9 +249,9 @@ fn totals_of(alloc: Global, entries: &BTreeMap<Uid, Amount>) -> Result<TotalList
 }
 
 /// Replays a script. The report is honest to it.
-pub fn report(alloc: Global, header: &Header, sections: &[Section]) -> Result<Report, AllocError>
-    requires { IsScript header.now sections.now }
-    ensures { IfOk result (λ r. IsHonest header.now sections.now r) }
+pub fn report(alloc: Global, header: &Header, sections: List<Section>) -> Result<Report, AllocError>
+    requires { IsScript header.now sections }
+    ensures { IfOk result (λ r. IsHonest header.now sections r) }
 {
     let mut replay = Replay::new(alloc, &header.sizes);
     let sections = replay.sections(alloc, sections)?;

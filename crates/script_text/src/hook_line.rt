@@ -1,11 +1,10 @@
-ghost use Rattle.std.specs.Prelude.{◌≡◌, ◌≢◌, ◌==◌, [], ◌∷◌, ◌++◌, length, IfOk, IsErrOf, OnOk, OnErr, slice_get, option_copied};
+ghost use Rattle.std.specs.Prelude.{◌≡◌, ◌≢◌, ◌∷◌, IfOk, IsErrOf};
 ghost use Rattle.script_text.specs.Lines.{IsHookLine, hook_fields, hook_word};
 
 use crate::fault::LineFault;
 use crate::fields::Fields;
-use acct_base::{ByteList, Dir, Family, Iface, IfaceIn, Uid};
-use std::alloc::{AllocError, Global};
-use std::marker::Model;
+use acct_base::{BlockList, ByteList, Dir, Family, Iface, IfaceIn, Uid};
+use std::alloc::Global;
 
 /// The greatest uid of a script; 4294967295 stands for no uid.
 const MOST_UID: u64 = 4_294_967_294;
@@ -54,62 +53,8 @@ pub enum HookLine {
     },
 }
 
-/// The lines of a lane, in order, each with the number of its line in the script. Contracts see it as the
-/// list of these pairs.
-#[derive(Debug, Drop)]
-pub struct HookLineList {
-    items: Vec<(u64, HookLine)>,
-}
-
-impl Model for HookLineList {
-    ghost use Rattle.std.specs.Prelude.{ℕ, List};
-    ghost use Rattle.script_text.specs.declared.hook_line.HookLine.{HookLine};
-
-    ghost Value = { List (ℕ × HookLine) };
-
-    ghost view = { λ l. l.items.items };
-}
-
-impl HookLineList {
-    /// A list without lines.
-    pub fn new(alloc: Global) -> Self
-        ensures { result ≡ [] }
-    {
-        HookLineList {
-            items: Vec::new(alloc),
-        }
-    }
-
-    /// Puts a line at the end. Where memory is wanting the list stays as it was.
-    pub fn push(&mut self, item: (u64, HookLine)) -> Result<(), AllocError>
-        ensures ok { OnOk result (self.new ≡ self.old ++ item ∷ []) }
-        ensures err { OnErr result (self.new ≡ self.old) }
-    {
-        self.items.push(item)?;
-        Ok(())
-    }
-
-    /// How many lines there are.
-    pub fn len(&self) -> usize
-        ensures { result ≡ length self.now }
-    {
-        self.items.len()
-    }
-
-    /// Whether there is no line.
-    pub fn is_empty(&self) -> bool
-        ensures { result ≡ (length self.now == 0) }
-    {
-        self.items.is_empty()
-    }
-
-    /// The line at a place, from 0; None where the place is not below the length.
-    pub fn get(&self, place: usize) -> Option<&(u64, HookLine)>
-        ensures { option_copied result ≡ slice_get self.now place }
-    {
-        self.items.get(place)
-    }
-}
+/// The lines of a lane, in order, each with the number of its line in the script.
+pub type HookLineList = BlockList<(u64, HookLine)>;
 
 /// The line of a hook, behind the word for its direction.
 #[inline(always)]

@@ -1,4 +1,4 @@
-use Rattle.std.proofs.Common.{◌≡◌, ◌++◌, ◌∙◌, ap, ◌∷◌, []}
+use Rattle.std.proofs.Common.{◌++◌, ◌∙◌, ap, ◌∷◌, []}
 use Rattle.std.specs.Prelude.{codes, string_bytes}
 use Rattle.acct_base.specs.Text.{line_text}
 use Rattle.dump_text.specs.declared.tally.Tally.{Tally}

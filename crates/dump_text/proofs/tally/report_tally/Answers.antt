@@ -1,4 +1,4 @@
-use Rattle.std.proofs.Common.{◌≡◌, ◌∙◌, ap}
+use Rattle.std.proofs.Common.{◌∙◌, ap}
 use Rattle.dump_text.specs.declared.tally.Tally.{Tally}
 use Rattle.dump_text.specs.Dump.{section_receipts}
 use Rattle.dump_text.specs.Tallied.{added}

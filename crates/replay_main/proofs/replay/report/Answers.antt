@@ -10,7 +10,7 @@ use Rattle.replay_main.proofs.FirstLanes.{sections_are_honest}
 use Rattle.replay_main.proofs.replay.report.Goals as goal
 
 pub sections-requires-clause-fits : goal.sections-requires-clause-fits
-sections-requires-clause-fits c = script_fits c.args.header.now c.args.sections.now c.requires
+sections-requires-clause-fits c = script_fits c.args.header.now c.args.sections c.requires
 
 pub sections-requires-clause-room : goal.sections-requires-clause-room
 sections-requires-clause-room c = (
@@ -19,14 +19,14 @@ sections-requires-clause-room c = (
   [],
   [],
   0,
-  omega (arith, script_calls c.args.header.now c.args.sections.now c.requires),
+  omega (arith, script_calls c.args.header.now c.args.sections c.requires),
   c.new-replay.ensures,
 )
 
 pub returns : goal.returns
 returns c =
     let sizes = c.args.header.now.sizes in
-    let calls = map calls_of c.args.sections.now in
+    let calls = map calls_of c.args.sections in
     let pairs = all_pairs calls c.in_ok-sections.sections in
     let cs = flat_map charges pairs in
     let adds = flat_map app_adds pairs in

@@ -1,10 +1,7 @@
-use Rattle.std.proofs.Common.{take}
-use Rattle.replay_main.specs.Honest.{lane_calls, lane_pairs}
-use Rattle.replay_main.specs.Replayed.{Counts, LaneIsFirst}
+use Rattle.std.proofs.Common.{[]}
+use Rattle.std.specs.List.{flat_map}
+use Rattle.replay_main.specs.Replayed.{AnswersLines}
 use Rattle.replay_main.proofs.replay.Replay.lane.Given as goal
 
-abbrev pub invariant-loop-place : goal.invariant-loop-place
-invariant-loop-place l = record {
-  first : LaneIsFirst (lane_calls (take l.place l.lane)) l.receipts;
-  counts : Counts l.initial.self l.self (lane_pairs (lane_calls (take l.place l.lane)) l.receipts) l.place;
-}
+abbrev pub invariant-loop-block : goal.invariant-loop-block
+invariant-loop-block l = AnswersLines l.initial.self l.self (flat_map (λ block. block.items) l.yielded) [] l.receipts
