@@ -40,9 +40,6 @@ is_less a b l = grind (arith, nat_tests)
 is_most : (a b : ℕ) → a ≤ b → nat_le a b ≡ true
 is_most a b l = grind (arith, nat_tests)
 
-are_apart : (a b : ℕ) → a ≢ b → not (a == b) ≡ true
-are_apart a b ne = grind (arith, nat_tests)
-
 pub passed_test : {A : Type 0} (b : Bool) (x : A) → b ≡ true → where_passes b x ≡ Some x
 passed_test b x e = ap (λ (t : Bool). where_passes t x) e
 

@@ -1,7 +1,6 @@
 pub mod Prefixes
 pub mod Spots
 pub mod Keeps
-pub mod Distinct
 pub mod Ascending
 pub mod Truths
 pub mod Counts

@@ -1,5 +1,4 @@
 pub mod Counts
-pub mod Distinct
 pub mod Finds
 pub mod Journal
 pub mod Origins

@@ -1,2 +1,4 @@
 pub mod Packing
 pub mod Turns
+pub mod DistinctLemmas
+pub mod Members

@@ -1,5 +1,3 @@
-pub mod DistinctLemmas
-pub mod Members
 pub mod Spots
 pub mod Keeps
 pub mod Lookups

@@ -2,7 +2,6 @@ pub mod Rows
 pub mod Sums
 pub mod Rule
 pub mod Plays
-pub mod Distinct
 pub mod Shown
 pub mod Seats
 pub mod SeatInside
