@@ -1,4 +1,5 @@
 //! How the rows of a table are found: a label as two words, and the places that are tried for two words.
+//! `specs/Distinct` counts the different numbers of a list, for the contracts of the tables that stand on this.
 #![tactic(auto)]
 
 mod keys;
