@@ -84,6 +84,7 @@ fn put_found(all: &mut BlockList<Found>, found: Found) -> Result<Option<u32>, Al
     if found == NOTHING {
         return Ok(None);
     }
+    // More finds than a u32 can number would not fit in memory.
     let place = u32::try_from(all.len()).map_err(|_| AllocError)?;
     all.push(found)?;
     Ok(Some(place))
