@@ -4,6 +4,34 @@ use crate::hook_line::HookLine;
 use acct_base::{Dir, Family};
 use std::test::Fail;
 
+// Of a line with an IPv4 packet at a hook: its number and direction; its uid, cookie and interface; its length, and
+// how many bytes of its head there are.
+type Packet = ((u64, Dir), (u32, u64, u32), (u32, usize));
+
+fn packet(line: Option<&(u64, HookLine)>) -> Option<Packet> {
+    match line {
+        Some(
+            (
+                number,
+                HookLine::Hook {
+                    dir,
+                    family: Family::V4,
+                    sock_uid,
+                    iface,
+                    len,
+                    cookie,
+                    head,
+                },
+            ),
+        ) => Some((
+            (*number, *dir),
+            (*sock_uid, *cookie, *iface),
+            (*len, head.len()),
+        )),
+        _ => None,
+    }
+}
+
 #[test]
 fn reads_one_lane(rt: HostRuntime) -> Result<(), Fail> {
     let alloc = rt.alloc();
@@ -23,45 +51,14 @@ fn reads_one_lane(rt: HostRuntime) -> Result<(), Fail> {
     assert_eq!(rt; section.lanes.len(), 1);
     let lane = section.lanes.get(0).ok_or("a lane")?;
     assert_eq!(rt; (lane.len(), lane.is_empty()), (2, false));
-    match lane.get(0) {
-        Some(
-            (
-                4,
-                HookLine::Hook {
-                    dir,
-                    family,
-                    sock_uid,
-                    iface,
-                    len,
-                    cookie,
-                    head,
-                },
-            ),
-        ) => {
-            assert_eq!(rt; (*dir, *family), (Dir::Ingress, Family::V4));
-            assert_eq!(rt;
-                (*sock_uid, *cookie, *iface, *len, head.len()),
-                (10050, 0, 2, 60, 0)
-            );
-        }
-        _ => assert!(rt; false, "another first line"),
-    }
-    match lane.get(1) {
-        Some(
-            (
-                5,
-                HookLine::Hook {
-                    dir,
-                    sock_uid,
-                    len,
-                    ..
-                },
-            ),
-        ) => {
-            assert_eq!(rt; (*dir, *sock_uid, *len), (Dir::Egress, 0, 262_144));
-        }
-        _ => assert!(rt; false, "another second line"),
-    }
+    assert_eq!(rt;
+        packet(lane.get(0)),
+        Some(((4, Dir::Ingress), (10050, 0, 2), (60, 0)))
+    );
+    assert_eq!(rt;
+        packet(lane.get(1)),
+        Some(((5, Dir::Egress), (0, 7, 1), (262_144, 0)))
+    );
     Ok(())
 }
 
