@@ -165,9 +165,9 @@ impl Replay {
         requires room { HasRoomFor self.old (length lines.now) }
         ensures { OnOk result (AnswersLines self.old self.new lines.now receipts.old receipts.new) }
     {
-        for line in lines {
-            let receipt = self.line(&line.1)?;
-            receipts.push((line.0, receipt))?;
+        for (number, line) in lines {
+            let receipt = self.line(line)?;
+            receipts.push((*number, receipt))?;
         }
         Ok(())
     }

@@ -11,22 +11,22 @@ pub line-requires-clause-room : goal.line-requires-clause-room
 line-requires-clause-room c =
     let (rows, apps, cs, adds, n, lt, has) = c.requires.room in
     let lines = c.args.lines.now in
-    let i = c.loop-line.line-index in
-    let done = lane_pairs (lane_calls (take i lines)) c.loop-line.invariant.given in (
+    let i = c.loop-number.number-index in
+    let done = lane_pairs (lane_calls (take i lines)) c.loop-number.invariant.given in (
       rows,
       apps,
       cs ++ flat_map charges done,
       adds ++ flat_map app_adds done,
       n + length (take i lines),
-      omega (arith, lt, c.loop-line-test.true, length-take-le i lines),
-      c.loop-line.invariant.counts rows apps cs adds n has,
+      omega (arith, lt, c.loop-number-test.true, length-take-le i lines),
+      c.loop-number.invariant.counts rows apps cs adds n has,
     )
 
-pub loop-line-preserved : goal.loop-line-preserved
-loop-line-preserved c =
+pub loop-number-preserved : goal.loop-number-preserved
+loop-number-preserved c =
     let lines = c.args.lines.now in
-    let i = c.loop-line.line-index in
-    let line = c.line-item.result in
-    let taken : take (i + 1) lines ≡ take i lines ++ line ∷ [] = take_more lines i line c.loop-line-test.true ∙ ap (λ (x : ℕ × HookLine). take i lines ++ x ∷ []) (sym c.line-item.is) in
-    more_lines c.args.self.now c.loop-line.self c.line.new.self (take i lines) (line ∷ []) (take (i + 1) lines) c.args.receipts.now c.loop-line.receipts c.push.new.self taken c.loop-line.invariant
-    (one_line c.loop-line.self c.line.new.self line c.in_ok-receipt.receipt c.loop-line.receipts c.push.new.self c.in_ok-receipt.ensures c.in_ok-push.ensures.ok)
+    let i = c.loop-number.number-index in
+    let line = c.loop-number-item.result in
+    let taken : take (i + 1) lines ≡ take i lines ++ line ∷ [] = take_more lines i line c.loop-number-test.true ∙ ap (λ (x : ℕ × HookLine). take i lines ++ x ∷ []) (sym c.loop-number-item.is) in
+    more_lines c.args.self.now c.loop-number.self c.line.new.self (take i lines) (line ∷ []) (take (i + 1) lines) c.args.receipts.now c.loop-number.receipts c.push.new.self taken c.loop-number.invariant
+    (one_line c.loop-number.self c.line.new.self line c.in_ok-receipt.receipt c.loop-number.receipts c.push.new.self c.in_ok-receipt.ensures c.in_ok-push.ensures.ok)
