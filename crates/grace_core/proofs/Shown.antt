@@ -64,33 +64,28 @@ module _ {X : Type 0} (part : Amount → ℕ) (none : part zero_amount ≡ 0) (a
   total_part [] = none
   total_part (x ∷ xs) = let a = adds (f x) (total_by f xs) in let b = sum_by-cons (λ y. part (f y)) x xs in let r = total_part xs in omega arith
 
+-- one number of what is counted in a direction: where it is that direction's, and else 0
+one_if : (part : Amount → ℕ) → part zero_amount ≡ 0 → (way n : ℕ) (d : Dir) (p q : ℕ) → part (amount_in d p q) ≡ cond (eqb (direction d) way) n 0 → (a b c : Bool) → part (amount_if (a && b && c) (amount_in d p q)) ≡ cond (a && ((b && c) && eqb (direction d) way)) n 0
+one_if part none way n d p q counted false b c = none
+one_if part none way n d p q counted true false c = none
+one_if part none way n d p q counted true true false = none
+one_if part none way n d p q counted true true true = counted
+
 rx_packets_if : (a b c : Bool) (d : Dir) (p q : ℕ) → (amount_if (a && b && c) (amount_in d p q)).rx_packets ≡ cond (a && ((b && c) && eqb (direction d) 0)) p 0
-rx_packets_if false b c d p q = refl
-rx_packets_if true false c d p q = refl
-rx_packets_if true true false d p q = refl
-rx_packets_if true true true Ingress p q = refl
-rx_packets_if true true true Egress p q = refl
+rx_packets_if a b c Ingress p q = one_if (λ x. x.rx_packets) refl 0 p Ingress p q refl a b c
+rx_packets_if a b c Egress p q = one_if (λ x. x.rx_packets) refl 0 p Egress p q refl a b c
 
 rx_bytes_if : (a b c : Bool) (d : Dir) (p q : ℕ) → (amount_if (a && b && c) (amount_in d p q)).rx_bytes ≡ cond (a && ((b && c) && eqb (direction d) 0)) q 0
-rx_bytes_if false b c d p q = refl
-rx_bytes_if true false c d p q = refl
-rx_bytes_if true true false d p q = refl
-rx_bytes_if true true true Ingress p q = refl
-rx_bytes_if true true true Egress p q = refl
+rx_bytes_if a b c Ingress p q = one_if (λ x. x.rx_bytes) refl 0 q Ingress p q refl a b c
+rx_bytes_if a b c Egress p q = one_if (λ x. x.rx_bytes) refl 0 q Egress p q refl a b c
 
 tx_packets_if : (a b c : Bool) (d : Dir) (p q : ℕ) → (amount_if (a && b && c) (amount_in d p q)).tx_packets ≡ cond (a && ((b && c) && eqb (direction d) 1)) p 0
-tx_packets_if false b c d p q = refl
-tx_packets_if true false c d p q = refl
-tx_packets_if true true false d p q = refl
-tx_packets_if true true true Ingress p q = refl
-tx_packets_if true true true Egress p q = refl
+tx_packets_if a b c Ingress p q = one_if (λ x. x.tx_packets) refl 1 p Ingress p q refl a b c
+tx_packets_if a b c Egress p q = one_if (λ x. x.tx_packets) refl 1 p Egress p q refl a b c
 
 tx_bytes_if : (a b c : Bool) (d : Dir) (p q : ℕ) → (amount_if (a && b && c) (amount_in d p q)).tx_bytes ≡ cond (a && ((b && c) && eqb (direction d) 1)) q 0
-tx_bytes_if false b c d p q = refl
-tx_bytes_if true false c d p q = refl
-tx_bytes_if true true false d p q = refl
-tx_bytes_if true true true Ingress p q = refl
-tx_bytes_if true true true Egress p q = refl
+tx_bytes_if a b c Ingress p q = one_if (λ x. x.tx_bytes) refl 1 q Ingress p q refl a b c
+tx_bytes_if a b c Egress p q = one_if (λ x. x.tx_bytes) refl 1 q Egress p q refl a b c
 
 part_if : (part : Amount → ℕ) → part zero_amount ≡ 0 → (b : Bool) (a : Amount) → part (amount_if b a) ≡ cond b (part a) 0
 part_if part none true a = refl

@@ -20,8 +20,8 @@ use Rattle.reg_words.specs.declared.view.Stage.TheVariants.{Idle, Probing, Found
 use Rattle.acct_base.specs.declared.register.Key.TheVariants.{Cookie}
 use Rattle.reg_words.specs.Registers.{IsPrefix, IsValueOf}
 use Rattle.reg_words.specs.Journal.{IsLast, value_at, has}
-use Rattle.reg_words.specs.Places.{code, rows, total, spot, AllDecided, At, Owned, Stays}
-use Rattle.reg_words.specs.Rule.{seen_at, AllFormed, RegisterIs, Stands, Met, Knows, Kept, opening_view, spent, fresh_right, joined, was_told, write_of, Fronted, Missed, Probed, Registered, Valued}
+use Rattle.reg_words.specs.Places.{code, rows, total, spot, AllDecided, At, Stays}
+use Rattle.reg_words.specs.Rule.{seen_at, RegisterIs, Stands, Met, Knows, Tells, Kept, opening_view, spent, fresh_right, joined, was_told, write_of, Fronted, Missed, Probed, Registered, Valued}
 use Rattle.reg_words.proofs.Truths.{is_last_write, is_true}
 use Rattle.reg_words.proofs.Prefixes.{at_bound, at_end, there, prefix_self, prefix_snoc, prefix_length, prefix_at, prefix_take, take_prefix, prefix_short, same_value, last_before, last_other, last_here, value_here, value_is, longer_prefix, shorter_prefix, shorter_below, all_zero}
 use Rattle.reg_words.proofs.Spots.{spot_below, same_key, stays_set, decided_stays, at_stays, at_once, nowhere, nowhere_full, more_decided, owned_stays, owner_is}
@@ -97,21 +97,7 @@ module _ (z : RegSizes) where
     plan = r.plan;
     writer = r.writer;
     wide = r.wide;
-    sized = r.sized;
-    role = r.role;
-    room = r.room;
-    front_is = r.front_is;
-    shown = r.shown;
-    brought = r.brought;
-    placed = r.placed;
-    keys = r.keys;
-    owned = r.owned;
-    blank = r.blank;
-    regs = r.regs;
-    written = r.written;
-    values = r.values;
-    next = r.next;
-    formed = r.formed;
+    tells = r.tells;
     each_seat = all;
   }
 
@@ -267,65 +253,18 @@ module _ (z : RegSizes) where
   mine : (s : St) (r : Rule s) (id : ℕ) (d : View) → d.kind ≡ Writer → get_elem? s.views id ≡ some d → (q : Rule s) × (q.plan ≡ d) × (id ≡ q.writer)
   mine s r id d is at = let k = as_writer s r id d is at in (r, sym k.0, k.1)
 
-  -- a step of the writer that leaves the view w, at a table that shows the writer's view d
-  record Wrote (words : List ℕ) (w : View) : Type 0 where
-    sized : w.limits ≡ z
-    role : w.kind ≡ Writer
-    room : length w.list ≤ z.writes
-    front_is : get_or words 0 0 ≡ w.front
-    shown : w.front ≤ length w.list
-    brought : IsPrefix w.told w.list
-    placed : length w.places ≡ total z
-    keys : (p : ℕ) → p < total z → get_or words (1 + p) 0 ≡ get_or w.places p 0
-    owned : (p : ℕ) → p < total z → get_or w.places p 0 ≢ 0 → Owned z w.places p
-    blank : (p : ℕ) → p < total z → get_or w.places p 0 ≡ 0 → get_or words (1 + total z + p) 0 ≡ 0
-    regs : (key : Key) (turn : ℕ) → At z w.places key turn → RegisterIs w.list key (get_or words (1 + total z + spot z key turn) 0)
-    written : (i : ℕ) (u : Write) → get_elem? w.list i ≡ some u → (turn : ℕ) × At z w.places u.key turn
-    values : (i : ℕ) (u : Write) (x : ℕ) → get_elem? w.list i ≡ some u → u.value ≡ Some x → get_or words (1 + total z + total z + i) 0 ≡ x
-    next : (x : ℕ) → w.pending ≡ Some x → (length w.list < z.writes) × (get_or words (1 + total z + total z + length w.list) 0 ≡ x)
-    formed : AllFormed w.list
-
   -- what the writer's view says of the words
-  shows : (s : St) (r : Rule s) (d : View) → d ≡ r.plan → Wrote s.words d
-  shows s r d e = subst (Wrote s.words) (sym e) record {
-    sized = r.sized;
-    role = r.role;
-    room = r.room;
-    front_is = r.front_is;
-    shown = r.shown;
-    brought = r.brought;
-    placed = r.placed;
-    keys = r.keys;
-    owned = r.owned;
-    blank = r.blank;
-    regs = r.regs;
-    written = r.written;
-    values = r.values;
-    next = r.next;
-    formed = r.formed;
-  }
+  shows : (s : St) (r : Rule s) (d : View) → d ≡ r.plan → Tells z s.words d
+  shows s r d e = subst (Tells z s.words) (sym e) r.tells
 
+  -- a step of the writer that leaves the view w, at a table that shows the writer's view d
   wrote : (s : St) (r : Rule s) (i n id : ℕ) (cs : List (ℕ × U)) (w : View) → id ≡ r.writer → w.kind ≡ Writer → ((a : List Write) → IsPrefix a r.plan.list → IsPrefix a w.list) → Stays r.plan.places w.places
-      → Wrote (set s.words i n) w → Rule (stepped s i n id cs w keeps)
+      → Tells z (set s.words i n) w → Rule (stepped s i n id cs w keeps)
   wrote s r i n id cs w own is more stays t = let wide = r.wide in record {
     plan = w;
     writer = r.writer;
     wide = length-set s.words i n ∙ wide;
-    sized = t.sized;
-    role = t.role;
-    room = t.room;
-    front_is = t.front_is;
-    shown = t.shown;
-    brought = t.brought;
-    placed = t.placed;
-    keys = t.keys;
-    owned = t.owned;
-    blank = t.blank;
-    regs = t.regs;
-    written = t.written;
-    values = t.values;
-    next = t.next;
-    formed = t.formed;
+    tells = t;
     each_seat = seats_stay (λ j d. Knows z w r.writer j d d.kind) s.views id w (subst (Knows z w r.writer id w) (sym is) (refl, own))
         (λ j d other at. others_know r.plan w id r.writer j d (sym own) more stays other d.kind (r.each_seat j d at));
   }
@@ -525,21 +464,23 @@ module _ (z : RegSizes) where
         plan = w;
         writer = r.writer;
         wide = r.wide;
-        sized = t.sized;
-        role = t.role;
-        room = t.room;
-        front_is = t.front_is;
-        shown = t.shown;
-        brought = brings;
-        placed = t.placed;
-        keys = t.keys;
-        owned = t.owned;
-        blank = t.blank;
-        regs = t.regs;
-        written = t.written;
-        values = t.values;
-        next = t.next;
-        formed = t.formed;
+        tells = record {
+          sized = t.sized;
+          role = t.role;
+          room = t.room;
+          front_is = t.front_is;
+          shown = t.shown;
+          brought = brings;
+          placed = t.placed;
+          keys = t.keys;
+          owned = t.owned;
+          blank = t.blank;
+          regs = t.regs;
+          written = t.written;
+          values = t.values;
+          next = t.next;
+          formed = t.formed;
+        };
         each_seat = seats_stay (λ j x. Knows z w r.writer j x x.kind) (set s.views id w) other spent tt
             (λ j x _ f. seats_stay (λ j x. Knows z w r.writer j x x.kind) s.views id w (subst (Knows z w r.writer id w) (sym is) (refl, k.1))
             (λ j x apart at. others_know p w id r.writer j x (sym k.1) (λ a q. subst (λ (y : View). IsPrefix a y.list) (sym k.0) q) (same_stays p d k.0) apart x.kind (r.each_seat j x at)) j x f);
@@ -553,21 +494,23 @@ module _ (z : RegSizes) where
     plan = opening_view z;
     writer = 0;
     wide = long;
-    sized = refl;
-    role = refl;
-    room = omega arith;
-    front_is = zeros 0;
-    shown = omega arith;
-    brought = ([], refl);
-    placed = length-replicate (total z) 0;
-    keys = λ p _. zeros (1 + p) ∙ sym (none_placed p);
-    owned = λ p _ taken. absurd (taken (none_placed p));
-    blank = λ p _ _. zeros (1 + total z + p);
-    regs = λ key turn a. absurd (no_at key turn a);
-    written = λ i w e. absurd (some-ne-none w (sym e));
-    values = λ i w x e _. absurd (some-ne-none w (sym e));
-    next = λ x e. absurd (none_std x e);
-    formed = λ i w x e _. absurd (some-ne-none w (sym e));
+    tells = record {
+      sized = refl;
+      role = refl;
+      room = omega arith;
+      front_is = zeros 0;
+      shown = omega arith;
+      brought = ([], refl);
+      placed = length-replicate (total z) 0;
+      keys = λ p _. zeros (1 + p) ∙ sym (none_placed p);
+      owned = λ p _ taken. absurd (taken (none_placed p));
+      blank = λ p _ _. zeros (1 + total z + p);
+      regs = λ key turn a. absurd (no_at key turn a);
+      written = λ i w e. absurd (some-ne-none w (sym e));
+      values = λ i w x e _. absurd (some-ne-none w (sym e));
+      next = λ x e. absurd (none_std x e);
+      formed = λ i w x e _. absurd (some-ne-none w (sym e));
+    };
     each_seat = λ j d e. let t = only_at (opening_view z) j d e in subst (λ (y : ℕ × View). Knows z (opening_view z) 0 y.0 y.1 y.1.kind) (λ i. (sym t.0 i, t.1 i)) (refl, refl);
   }
 

@@ -50,29 +50,34 @@ module _ (z : RegSizes) (plan : View) (writer seat : ℕ) (d : View) where
 abbrev pub AllFormed : List Write → Type 0
 AllFormed journal = (i : ℕ) (w : Write) (x : ℕ) → get_elem? journal i ≡ some w → w.value ≡ Some x → IsValueOf w.key x
 
--- The rule of the table. The writer's view is the plan, by which every word is told: the front is published writes alone (`front_is`, `shown`);
--- the key words are the plan's (`keys`), each taken one is a key's own (`owned`), and the register of a free place is 0 (`blank`);
--- each register is its key's (`regs`), each written key has a place (`written`), and each value has its word (`values`), also the one that
--- is stored for the next write (`next`). Each value has its key's form (`formed`), and each seat knows what is so (`each_seat`).
+-- The writer's view tells of every word: the front is published writes alone (`front_is`, `shown`); the key words are the view's (`keys`),
+-- each taken one is a key's own (`owned`), and the register of a free place is 0 (`blank`); each register is its key's (`regs`), each written
+-- key has a place (`written`), and each value has its word (`values`), also the one that is stored for the next write (`next`). Each value has
+-- its key's form (`formed`).
+pub record Tells (z : RegSizes) (words : List ℕ) (w : View) : Type 0 where
+  pub sized : w.limits ≡ z
+  pub role : w.kind ≡ Writer
+  pub room : length w.list ≤ z.writes
+  pub front_is : slice_index words 0 ≡ w.front
+  pub shown : w.front ≤ length w.list
+  pub brought : IsPrefix w.told w.list
+  pub placed : length w.places ≡ total z
+  pub keys : (p : ℕ) → p < total z → slice_index words (1 + p) ≡ slice_index w.places p
+  pub owned : (p : ℕ) → p < total z → slice_index w.places p ≢ 0 → Owned z w.places p
+  pub blank : (p : ℕ) → p < total z → slice_index w.places p ≡ 0 → slice_index words (1 + total z + p) ≡ 0
+  pub regs : (key : Key) (turn : ℕ) → At z w.places key turn → RegisterIs w.list key (slice_index words (1 + total z + spot z key turn))
+  pub written : (i : ℕ) (u : Write) → get_elem? w.list i ≡ some u → (turn : ℕ) × At z w.places u.key turn
+  pub values : (i : ℕ) (u : Write) (x : ℕ) → get_elem? w.list i ≡ some u → u.value ≡ Some x → slice_index words (1 + total z + total z + i) ≡ x
+  pub next : (x : ℕ) → w.pending ≡ Some x → (length w.list < z.writes) × (slice_index words (1 + total z + total z + length w.list) ≡ x)
+  pub formed : AllFormed w.list
+
+-- The rule of the table. The plan, which is the writer's view, tells of every word, and each seat knows what is so.
 pub record Kept (z : RegSizes) (s : St) : Type 0 where
   pub plan : View
   pub writer : ℕ
   pub wide : length s.words ≡ 1 + total z + total z + z.writes
-  pub sized : plan.limits ≡ z
-  pub role : plan.kind ≡ Writer
-  pub room : length plan.list ≤ z.writes
-  pub front_is : slice_index s.words 0 ≡ plan.front
-  pub shown : plan.front ≤ length plan.list
-  pub brought : IsPrefix plan.told plan.list
-  pub placed : length plan.places ≡ total z
-  pub keys : (p : ℕ) → p < total z → slice_index s.words (1 + p) ≡ slice_index plan.places p
-  pub owned : (p : ℕ) → p < total z → slice_index plan.places p ≢ 0 → Owned z plan.places p
-  pub blank : (p : ℕ) → p < total z → slice_index plan.places p ≡ 0 → slice_index s.words (1 + total z + p) ≡ 0
-  pub regs : (key : Key) (turn : ℕ) → At z plan.places key turn → RegisterIs plan.list key (slice_index s.words (1 + total z + spot z key turn))
-  pub written : (i : ℕ) (w : Write) → get_elem? plan.list i ≡ some w → (turn : ℕ) × At z plan.places w.key turn
-  pub values : (i : ℕ) (w : Write) (x : ℕ) → get_elem? plan.list i ≡ some w → w.value ≡ Some x → slice_index s.words (1 + total z + total z + i) ≡ x
-  pub next : (x : ℕ) → plan.pending ≡ Some x → (length plan.list < z.writes) × (slice_index s.words (1 + total z + total z + length plan.list) ≡ x)
-  pub formed : AllFormed plan.list
+  pub tells : Tells z s.words plan
+  pub open tells use *
   pub each_seat : (j : ℕ) (d : View) → get_elem? s.views j ≡ some d → Knows z plan writer j d d.kind
 
 -- A view without a look-up, a load or a read.

@@ -62,6 +62,7 @@ fn wide_digits(bytes: &[u8], most: u64) -> Option<(u64, usize)>
     Some((number, at))
 }
 
+// The same for every bound. Cookies alone have one that needs the test of each step; all other numbers are spared it.
 fn digits(bytes: &[u8], most: u64) -> Option<(u64, usize)>
     ensures run { IfSome result (λ p. IsRun bytes.now most p.1 p.0) }
     ensures stops { IfSome result (λ p. NoDigit (drop p.1 bytes.now)) }

@@ -13,7 +13,7 @@ use lib.ListN.{get_elem?}
 use Rattle.atomic_table.specs.Table.{State, Final, Seen}
 use Rattle.row_probe.proofs.Turns.{place-surjective}
 use Rattle.acct_base.specs.declared.amount.Amount.{Amount}
-use Rattle.acct_base.specs.Amounts.{amount_if}
+use Rattle.acct_base.specs.Amounts.{amount_if, plus, zero_amount}
 use Rattle.acct_base.specs.Receipts.{Add}
 use Rattle.acct_base.specs.Sums.{added as total_of, total_at, has_key, lands_on, AreTotals}
 use Rattle.total_rows.specs.declared.plan.Plan.{Plan}
@@ -221,38 +221,28 @@ small_key rows words key (a ∷ l) h m = small_step (small_key rows words key l 
 
 -- ---- totals number by number
 
+-- a number of a total is the sum of that number over the key's amounts
+part_if : (part : Amount → ℕ) → part zero_amount ≡ 0 → (b : Bool) (a : Amount) → part (amount_if b a) ≡ if_is b (part a)
+part_if part none true a = refl
+part_if part none false a = none
+
+at_part : (part : Amount → ℕ) → part zero_amount ≡ 0 → ((a b : Amount) → part (plus a b) ≡ part a + part b) → (key : ℕ) (ts : List (ℕ × Amount)) → part (total_at ts key) ≡ sum_by (λ (t : ℕ × Amount). if_is (nat_eq t.0 key) (part t.1)) ts
+at_part part none adds key [] = none
+at_part part none adds key (t ∷ ts) =
+    adds (amount_if (nat_eq t.0 key) t.1) (total_at ts key) ∙ (λ i. part_if part none (nat_eq t.0 key) t.1 i + at_part part none adds key ts i) ∙ sym (sum_by-cons (λ (t : ℕ × Amount). if_is (nat_eq t.0 key) (part t.1)) t ts)
+
 module _ (key : ℕ) where
   at_rx_packets : (ts : List (ℕ × Amount)) → (total_at ts key).rx_packets ≡ sum_by (λ (t : ℕ × Amount). if_is (nat_eq t.0 key) t.1.rx_packets) ts
-  at_rx_packets [] = refl
-  at_rx_packets (t ∷ ts) = (λ i. one (nat_eq t.0 key) t.1 i + at_rx_packets ts i) ∙ sym (sum_by-cons (λ (t : ℕ × Amount). if_is (nat_eq t.0 key) t.1.rx_packets) t ts)
-    where
-      one : (b : Bool) (a : Amount) → (amount_if b a).rx_packets ≡ if_is b a.rx_packets
-      one true a = refl
-      one false a = refl
+  at_rx_packets = at_part (λ a. a.rx_packets) refl (λ a b. refl) key
 
   at_rx_bytes : (ts : List (ℕ × Amount)) → (total_at ts key).rx_bytes ≡ sum_by (λ (t : ℕ × Amount). if_is (nat_eq t.0 key) t.1.rx_bytes) ts
-  at_rx_bytes [] = refl
-  at_rx_bytes (t ∷ ts) = (λ i. one (nat_eq t.0 key) t.1 i + at_rx_bytes ts i) ∙ sym (sum_by-cons (λ (t : ℕ × Amount). if_is (nat_eq t.0 key) t.1.rx_bytes) t ts)
-    where
-      one : (b : Bool) (a : Amount) → (amount_if b a).rx_bytes ≡ if_is b a.rx_bytes
-      one true a = refl
-      one false a = refl
+  at_rx_bytes = at_part (λ a. a.rx_bytes) refl (λ a b. refl) key
 
   at_tx_packets : (ts : List (ℕ × Amount)) → (total_at ts key).tx_packets ≡ sum_by (λ (t : ℕ × Amount). if_is (nat_eq t.0 key) t.1.tx_packets) ts
-  at_tx_packets [] = refl
-  at_tx_packets (t ∷ ts) = (λ i. one (nat_eq t.0 key) t.1 i + at_tx_packets ts i) ∙ sym (sum_by-cons (λ (t : ℕ × Amount). if_is (nat_eq t.0 key) t.1.tx_packets) t ts)
-    where
-      one : (b : Bool) (a : Amount) → (amount_if b a).tx_packets ≡ if_is b a.tx_packets
-      one true a = refl
-      one false a = refl
+  at_tx_packets = at_part (λ a. a.tx_packets) refl (λ a b. refl) key
 
   at_tx_bytes : (ts : List (ℕ × Amount)) → (total_at ts key).tx_bytes ≡ sum_by (λ (t : ℕ × Amount). if_is (nat_eq t.0 key) t.1.tx_bytes) ts
-  at_tx_bytes [] = refl
-  at_tx_bytes (t ∷ ts) = (λ i. one (nat_eq t.0 key) t.1 i + at_tx_bytes ts i) ∙ sym (sum_by-cons (λ (t : ℕ × Amount). if_is (nat_eq t.0 key) t.1.tx_bytes) t ts)
-    where
-      one : (b : Bool) (a : Amount) → (amount_if b a).tx_bytes ≡ if_is b a.tx_bytes
-      one true a = refl
-      one false a = refl
+  at_tx_bytes = at_part (λ a. a.tx_bytes) refl (λ a b. refl) key
 
 -- ---- the end
 
