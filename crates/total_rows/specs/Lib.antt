@@ -7,6 +7,5 @@ pub mod Seats
 pub mod SeatInside
 pub mod TotalsInside
 pub mod SeatSteps
-pub mod Answers
 pub mod ReadSteps
 pub mod Closed

@@ -6,14 +6,14 @@ ghost use Rattle.total_rows.specs.Rule.{IsJob, calls};
 ghost use Rattle.total_rows.specs.Plays.{begun, IsFullOf};
 ghost use Rattle.total_rows.specs.Seats.{IsSole, IsFullFor};
 ghost use Rattle.total_rows.specs.SeatSteps.{IsSameSeat};
-ghost use Rattle.total_rows.specs.Answers.{is_row, IsBelow};
+ghost use Rattle.acct_base.specs.Landings.{is_row, IsBelow};
 ghost use Rattle.total_rows.specs.declared.plan.Stage.TheVariants.{Idle};
 
 use crate::plan::Job;
 use crate::seat::{TableSeat, TotalSeat};
 use crate::steps::code_of;
-use crate::totals::{Landed, Totals};
-use acct_base::Dir;
+use crate::totals::Totals;
+use acct_base::{Dir, Landed};
 use std::marker::Brand;
 
 impl Totals {

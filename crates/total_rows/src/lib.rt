@@ -18,11 +18,12 @@ mod seats;
 mod steps;
 mod totals;
 
+pub use acct_base::Landed;
 pub use closing::TotalUnclosed;
 pub use laws::seats_know_their_own_adds;
 pub use room::TotalRoom;
 pub use seat::TotalSeat;
-pub use totals::{Landed, Totals};
+pub use totals::Totals;
 
 #[cfg(test)]
 mod tests;

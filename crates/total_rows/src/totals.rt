@@ -19,13 +19,6 @@ pub struct Totals {
     pub(crate) plan: Plan,
 }
 
-/// Where an add landed: in a row, or nowhere, since all rows are taken by other keys.
-#[derive(Clone, Copy, Debug, PartialEq, Eq)]
-pub enum Landed {
-    Row(u32),
-    Full,
-}
-
 impl Model for Totals {
     ghost use Rattle.total_rows.specs.Seats.{TotalsState};
 

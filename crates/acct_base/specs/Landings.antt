@@ -1,9 +1,9 @@
--- What an add answers.
+-- What a charge or an add answers.
 use Rattle.std.specs.Prelude.{ℕ, ◌<◌, Bool, true, false}
-use Rattle.total_rows.specs.declared.totals.Landed.{Landed}
-use Rattle.total_rows.specs.declared.totals.Landed.TheVariants.{Row, Full}
+use Rattle.acct_base.specs.declared.charge.Landed.{Landed}
+use Rattle.acct_base.specs.declared.charge.Landed.TheVariants.{Row, Full}
 
--- The add landed.
+-- It landed.
 abbrev pub is_row : Landed → Bool
 is_row (Row row) = true
 is_row Full = false
