@@ -34,7 +34,8 @@ impl Model for Book {
 }
 
 impl Book {
-    ghost use Rattle.desk_core.specs.Book.{IsDecisionOf, IsWithin};
+    ghost use Rattle.desk_core.specs.Book.{IsDecisionOf};
+    ghost use Rattle.acct_base.specs.Registers.{KeepsLimits};
 
     /// A book without writes, with these limits on the distinct keys of each map and on writes. Besides root
     /// and the system the apps of these ids are privileged: they ascend, and are below 100,000.
@@ -82,7 +83,7 @@ impl Book {
     /// Whether the journal has room for so many writes more.
     pub(crate) fn has_room_for(&self, writes: usize) -> bool
         ensures value { result ≡ nat_le (length self.now.journal + writes) self.now.limits.writes }
-        ensures within { IsWithin self.now.limits self.now.journal }
+        ensures within { KeepsLimits self.now.limits self.now.journal }
     {
         writes <= self.limits.writes as usize - self.journal.len()
     }
@@ -98,7 +99,7 @@ impl Book {
     pub(crate) fn has_room_for_owners(&self, uids: &[Uid]) -> bool
         requires { IsStrictlyIncreasing uids.now }
         ensures value { (bit : ℕ) → result ≡ not (spends_keys self.now.journal self.now.limits (replacement self.now.journal bit uids.now)) }
-        ensures within { IsWithin self.now.limits self.now.journal }
+        ensures within { KeepsLimits self.now.limits self.now.journal }
     {
         let room = self.limits.owners - self.latest.owners.written;
         self.latest.new_owners(uids) <= room as usize

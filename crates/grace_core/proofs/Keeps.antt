@@ -7,7 +7,7 @@ use Rattle.std.proofs.lemmas.Bool.{eqb-true}
 use lib.ListN.{length-replicate}
 use Rattle.acct_base.specs.declared.charge.Job.{Job}
 use Rattle.acct_base.specs.declared.label.Label.{Label}
-use Rattle.acct_base.specs.Amounts.{IsValidLabel}
+use Rattle.acct_base.specs.Amounts.{IsValidLabel, is_valid_label}
 use Rattle.grace_core.specs.declared.view.HookView.{HookView}
 use Rattle.grace_core.specs.declared.view.At.{At}
 use Rattle.grace_core.specs.declared.view.At.TheVariants.{Outside, Inside, First, Second, Adding}
@@ -16,7 +16,7 @@ use Rattle.grace_core.specs.declared.state.CollectAt.{CollectAt}
 use Rattle.grace_core.specs.declared.state.CollectAt.TheVariants.{Resting, Waiting, Draining}
 use Rattle.grace_core.specs.declared.event.Event.{Event}
 use Rattle.grace_core.specs.declared.event.Event.TheVariants as event
-use Rattle.grace_core.specs.Machine.{IsValidJob, is_valid_label, is_chargeable, is_valid_job, same_job, exits_at, live_phase, old_phase, entered, claim_first, claim_second, add_packets, add_bytes, where_passes, at_hook, enter, first_claim, second_claim, add, exit, split, join, flip, load_exits, take_word, reopen, collector_at, ascending_rows, after, or_same, after_all, started, Steps}
+use Rattle.grace_core.specs.Machine.{IsValidJob, is_chargeable, is_valid_job, same_job, exits_at, live_phase, old_phase, entered, claim_first, claim_second, add_packets, add_bytes, where_passes, at_hook, enter, first_claim, second_claim, add, exit, split, join, flip, load_exits, take_word, reopen, collector_at, ascending_rows, after, or_same, after_all, started, Steps}
 use Rattle.grace_core.specs.Sums.{weight}
 use Rattle.grace_core.specs.Good.{StageIsGood, WaitingIsGood, DrainingIsGood, IsGood}
 use Rattle.grace_core.proofs.Items.{some-injective, some-ne-none}

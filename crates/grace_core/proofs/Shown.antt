@@ -17,12 +17,12 @@ use Rattle.acct_base.specs.declared.amount.Snapshot.{Snapshot}
 use Rattle.acct_base.specs.declared.charge.Charge.{Charge}
 use Rattle.acct_base.specs.declared.packet.Dir.{Dir}
 use Rattle.acct_base.specs.declared.packet.Dir.TheVariants.{Ingress, Egress}
-use Rattle.acct_base.specs.Amounts.{plus, zero_amount, total_by, amount_if, amount_in, amount_at, labels_of, label_cmp, same_label, IsValidLabel}
+use Rattle.acct_base.specs.Amounts.{plus, zero_amount, total_by, amount_if, amount_in, amount_at, labels_of, label_cmp, same_label, IsValidLabel, is_valid_label}
 use Rattle.acct_base.specs.Receipts.{charge_amount}
 use Rattle.acct_base.specs.Sums.{lands_at, folded, has_label, HoldsCharges, FullWasMet}
 use Rattle.grace_core.specs.declared.view.HookView.{HookView}
 use Rattle.grace_core.specs.declared.state.State.{State}
-use Rattle.grace_core.specs.Machine.{IsValidJob, is_valid_label, direction}
+use Rattle.grace_core.specs.Machine.{IsValidJob, direction}
 use Rattle.grace_core.specs.Sums.{Measure, landed, missed, packets, bytes, measure, tally, charges_of}
 use Rattle.grace_core.specs.Rows.{row_is, row_packets, row_bytes, packets_in, bytes_in, Folds}
 use Rattle.grace_core.specs.Good.{side, ViewIsGood, EachView, SnapshotIsGood, IsGood}

@@ -8,7 +8,7 @@ use Rattle.acct_base.specs.declared.amount.Amount.{Amount}
 use Rattle.acct_base.specs.declared.amount.Row.{Row}
 use Rattle.acct_base.specs.declared.charge.Job.{Job}
 use Rattle.acct_base.specs.declared.charge.Charge.{Charge}
-use Rattle.acct_base.specs.Amounts.{label_cmp, same_label, IsValidLabel}
+use Rattle.acct_base.specs.Amounts.{label_cmp, same_label, IsValidLabel, is_valid_label}
 use Rattle.acct_base.specs.Length.{IsChargeable}
 use Rattle.acct_base.specs.Ordered.{sorted}
 use Rattle.row_probe.specs.Keys.{pack1, pack2, unpack}
@@ -75,10 +75,6 @@ claimed key found = if found == 0 then key else found
 pub record IsValidJob (job : Job) : Type 0 where
   pub label : IsValidLabel job.label
   pub amount : IsChargeable job.packets job.bytes
-
--- The test of a label that a packet can have.
-abbrev pub is_valid_label : Label → Bool
-is_valid_label l = nat_lt l.uid 4294967295 && nat_lt l.tag (2 ^ 32) && nat_le l.set 1 && nat_le 1 l.iface && nat_le l.iface 16777215
 
 -- The test of packets, or of bytes, that one charge may have.
 abbrev pub is_chargeable : ℕ → Bool

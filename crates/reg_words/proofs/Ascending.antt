@@ -8,8 +8,8 @@ use Rattle.std.specs.Cmp.{ranks}
 use mathlib.Core.Logic.{dite}
 use native.Mathlib.Decide.{ℕ_discrete}
 use Rattle.acct_base.specs.Ordered.{insert_once, ascending}
-use Rattle.row_probe.specs.Distinct.{mem, distinct, NoTwice}
-use Rattle.row_probe.proofs.DistinctLemmas.{distinct_is}
+use Rattle.acct_base.specs.Distinct.{mem, distinct, NoTwice}
+use Rattle.acct_base.proofs.DistinctLemmas.{distinct_is}
 
 -- three cases of two numbers
 compared : (x y : ℕ) (P : Ordering → Type 0) → (x < y → P Less) → (x ≡ y → P Equal) → (y < x → P Greater) → P (nat_cmp x y)

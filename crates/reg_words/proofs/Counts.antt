@@ -13,21 +13,22 @@ use Rattle.acct_base.specs.declared.register.Key.TheVariants.{Cookie, Set, Owner
 use Rattle.acct_base.specs.declared.register.Write.{Write}
 use Rattle.acct_base.specs.declared.sizes.RegSizes.{RegSizes}
 use Rattle.reg_words.specs.Places.{code, rows, base, total, spot, AllDecided, At, Stays}
-use Rattle.row_probe.specs.Distinct.{mem, distinct}
+use Rattle.acct_base.specs.Distinct.{mem, distinct}
 use Rattle.reg_words.specs.Counts.{map_of, codes_in, keys_in, IsWritten, Holder_of, AreOfWritten, IsSpent}
 use Rattle.reg_words.specs.Finds.{IsFound}
 use Rattle.reg_words.specs.declared.place.Spot.{Spot}
 use Rattle.reg_words.specs.declared.place.Spot.TheVariants.{Known, Free}
 use Rattle.atomic_table.proofs.Lists.{at_longer, at_last}
 use Rattle.std.specs.Prelude.{filter_map}
-use Rattle.reg_words.specs.Registers.{number_in_map, keys_in_map, limit_of, AreKeysSpent}
+use Rattle.reg_words.specs.Registers.{AreKeysSpent}
+use Rattle.acct_base.specs.Registers.{number_in_map, keys_in_map, limit_of}
 use Rattle.reg_words.specs.Places.{NeverWritten}
 use Rattle.reg_words.specs.Rule.{no_limits}
 use Rattle.reg_words.proofs.Truths.{never_last, last_never}
 use Rattle.reg_words.proofs.Keeps.{some_std, none_std}
 use Rattle.reg_words.proofs.Ascending.{distinct_ascending, distinct_next}
-use Rattle.row_probe.proofs.DistinctLemmas.{distinct_is, distinct_at_most}
-use Rattle.row_probe.proofs.Members.{or_right, mem_at, at_mem, no_twice, nonzero, nonzero_mem, nonzero_short, nonzero_once}
+use Rattle.acct_base.proofs.DistinctLemmas.{distinct_is, distinct_at_most}
+use Rattle.acct_base.proofs.Members.{or_right, mem_at, at_mem, no_twice, nonzero, nonzero_mem, nonzero_short, nonzero_once}
 use Rattle.row_probe.specs.Places.{place}
 use Rattle.row_probe.proofs.Turns.{place-lt, place-surjective}
 use Rattle.reg_words.proofs.Spots.{region, spot_below, same_key, at_once, at_stays, all_stay, all_snoc, nowhere_full}

@@ -18,7 +18,8 @@ use Rattle.reg_words.specs.declared.view.Kind.TheVariants.{Gone, Writer, Reader}
 use Rattle.reg_words.specs.declared.view.Stage.{Stage}
 use Rattle.reg_words.specs.declared.view.Stage.TheVariants.{Idle, Probing, Found}
 use Rattle.acct_base.specs.declared.register.Key.TheVariants.{Cookie}
-use Rattle.reg_words.specs.Registers.{IsPrefix, IsValueOf}
+use Rattle.reg_words.specs.Registers.{IsPrefix}
+use Rattle.acct_base.specs.Registers.{IsValueOf}
 use Rattle.reg_words.specs.Journal.{IsLast, value_at, has}
 use Rattle.reg_words.specs.Places.{code, rows, total, spot, AllDecided, At, Stays}
 use Rattle.reg_words.specs.Rule.{seen_at, RegisterIs, Stands, Met, Knows, Tells, Kept, opening_view, spent, fresh_right, joined, was_told, write_of, Fronted, Missed, Probed, Registered, Valued}

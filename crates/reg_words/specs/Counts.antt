@@ -7,7 +7,7 @@ use Rattle.acct_base.specs.declared.register.Key.TheVariants.{Cookie, Set, Owner
 use Rattle.acct_base.specs.declared.register.Write.{Write}
 use Rattle.acct_base.specs.declared.sizes.RegSizes.{RegSizes}
 use Rattle.reg_words.specs.Places.{code, rows, total, spot, At, AllPlaced, NeverWritten}
-use Rattle.row_probe.specs.Distinct.{distinct}
+use Rattle.acct_base.specs.Distinct.{distinct}
 
 -- The map of a key, by a number.
 abbrev pub map_of : Key → ℕ

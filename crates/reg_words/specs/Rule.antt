@@ -16,7 +16,8 @@ use Rattle.reg_words.specs.declared.view.Stage.{Stage}
 use Rattle.reg_words.specs.declared.view.Stage.TheVariants.{Idle, Probing, Found}
 use Rattle.acct_base.specs.declared.register.Key.TheVariants.{Cookie}
 use Rattle.acct_base.specs.Journal.{last_write, IsTrueRead}
-use Rattle.reg_words.specs.Registers.{IsPrefix, IsValueOf}
+use Rattle.reg_words.specs.Registers.{IsPrefix}
+use Rattle.acct_base.specs.Registers.{IsValueOf}
 use Rattle.reg_words.specs.Journal.{IsLast, value_at, has, longer, shorter}
 use Rattle.reg_words.specs.Places.{code, rows, total, spot, AllDecided, At, Owned}
 

@@ -6,7 +6,7 @@ use Rattle.reg_words.specs.declared.writer.Writer.TheInside.{Inside}
 use Rattle.reg_words.specs.declared.view.Kind.TheVariants.{Writer}
 use Rattle.reg_words.specs.Places.{total}
 use Rattle.reg_words.specs.Counts.{AreOfWritten}
-use Rattle.reg_words.specs.Registers.{AreLimits}
+use Rattle.acct_base.specs.Ranges.{AreRegSizes}
 use Rattle.reg_words.specs.Seats.{WriterState}
 
 -- The view of the seat, without what only the rule of the table needs.
@@ -24,7 +24,7 @@ pub record IsWriterSeat (w : Inside) : Type 0 where
   pub placed : w.places.items ≡ w.seat.me.0.places
   pub shown : w.front ≡ w.seat.me.0.front
   pub rests : w.seat.me.0.pending ≡ None
-  pub limited : AreLimits w.seat.me.0.limits
+  pub limited : AreRegSizes w.seat.me.0.limits
   pub laid : length w.places.items ≡ total w.seat.me.0.limits
   pub held : ∥ AreOfWritten w.seat.me.0.limits w.seat.me.0.places w.seat.me.0.list ∥₁
   pub short : length w.journal.items ≤ w.seat.me.0.limits.writes

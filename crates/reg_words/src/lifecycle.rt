@@ -2,7 +2,7 @@
 
 ghost use Rattle.std.specs.Prelude.{◌≡◌, ◌≤◌, [], length, IfOk, replicate, ◌<◌, ◌^◌};
 ghost use Rattle.reg_words.specs.Origins.{origin};
-ghost use Rattle.reg_words.specs.Registers.{AreLimits};
+ghost use Rattle.acct_base.specs.Ranges.{AreRegSizes};
 
 use crate::place::total_of;
 use crate::reader::Reader;
@@ -26,7 +26,7 @@ impl Regs {
     /// Registers with these limits, their one writer, and a first reader. The journal is empty, and nothing is
     /// published. All memory that the registers and their seats ever need is taken here.
     pub fn new(alloc: Global, sizes: &RegSizes) -> Result<(Regs, Writer, Reader), AllocError>
-        requires { AreLimits sizes.now }
+        requires { AreRegSizes sizes.now }
         ensures limits { IfOk result (λ t. (origin t.0).limits ≡ sizes.now) }
         ensures writer { IfOk result (λ t. t.1 ≡ record { origin = origin t.0; journal = []; front = 0 }) }
         ensures reader { IfOk result (λ t. t.2 ≡ record { origin = origin t.0; known = []; loads = 0; loaded = 0; reads = [] }) }

@@ -4,7 +4,8 @@ ghost use Rattle.std.specs.Prelude.{◌≡◌, ◌≢◌, ◌+◌, ◌<◌, ◌+
 ghost use Rattle.acct_base.specs.declared.register.Key.TheVariants.{Cookie};
 ghost use Rattle.acct_base.specs.Journal.{last_write, IsTrueRead};
 ghost use Rattle.reg_words.specs.Origins.{origin, IsSeatOf, IsSameSeat};
-ghost use Rattle.reg_words.specs.Registers.{IsPrefix, IsValueOf, recorded};
+ghost use Rattle.reg_words.specs.Registers.{IsPrefix, recorded};
+ghost use Rattle.acct_base.specs.Registers.{IsValueOf};
 ghost use Rattle.reg_words.specs.Rule.{Registered, seen_at};
 ghost use Rattle.reg_words.specs.declared.view.Kind.TheVariants.{Reader as AsReader};
 ghost use Rattle.reg_words.specs.declared.view.Stage.TheVariants.{Idle};

@@ -2,7 +2,7 @@
 
 ghost use Rattle.std.specs.Prelude.{◌≡◌, ◌+◌};
 ghost use Rattle.reg_words.specs.Places.{total};
-ghost use Rattle.reg_words.specs.Registers.{AreLimits};
+ghost use Rattle.acct_base.specs.Ranges.{AreRegSizes};
 
 use crate::view::WordTable;
 use acct_base::RegSizes;
@@ -17,5 +17,5 @@ pub struct Regs {
     pub ghost keyed: { table.shared.key ≡ limits },
     pub ghost wide: { table.shared.table_id.words ≡ 1 + total limits + total limits + limits.writes },
     pub ghost slotless: { table.shared.table_id.slots ≡ 0 },
-    pub ghost limited: { AreLimits limits },
+    pub ghost limited: { AreRegSizes limits },
 }

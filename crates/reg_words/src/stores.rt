@@ -6,7 +6,7 @@ ghost use Rattle.reg_words.specs.Finds.{IsFound};
 ghost use Rattle.reg_words.specs.Journal.{has};
 ghost use Rattle.reg_words.specs.Origins.{IsSeatOf, IsSameSeat};
 ghost use Rattle.reg_words.specs.Places.{code, rows, total, spot, AllDecided, At, Stays};
-ghost use Rattle.reg_words.specs.Registers.{IsValueOf};
+ghost use Rattle.acct_base.specs.Registers.{IsValueOf};
 ghost use Rattle.reg_words.specs.Rule.{write_of};
 ghost use Rattle.reg_words.specs.declared.view.Kind.TheVariants.{Writer as AsWriter};
 

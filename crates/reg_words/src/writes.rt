@@ -7,7 +7,8 @@ ghost use Rattle.reg_words.specs.Counts.{AreOfWritten};
 ghost use Rattle.reg_words.specs.Finds.{IsFound};
 ghost use Rattle.reg_words.specs.Origins.{origin, IsSeatOf, IsSameSeat};
 ghost use Rattle.reg_words.specs.Places.{code, rows, total};
-ghost use Rattle.reg_words.specs.Registers.{AreKeysSpent, IsValueOf};
+ghost use Rattle.reg_words.specs.Registers.{AreKeysSpent};
+ghost use Rattle.acct_base.specs.Registers.{IsValueOf};
 ghost use Rattle.reg_words.specs.Rule.{write_of};
 ghost use Rattle.reg_words.specs.declared.view.Kind.TheVariants.{Writer as AsWriter};
 

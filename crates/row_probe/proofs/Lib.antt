@@ -1,4 +1,2 @@
 pub mod Packing
 pub mod Turns
-pub mod DistinctLemmas
-pub mod Members

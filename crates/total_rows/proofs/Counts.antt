@@ -16,9 +16,9 @@ use Rattle.total_rows.specs.Rows.{code, spot, AllDecided, At}
 use Rattle.total_rows.specs.Sums.{if_is, landings, stands_at, uses, keys_landed}
 use Rattle.total_rows.specs.Rule.{busy, calls, IsAdd, Sits, Kept}
 use Rattle.total_rows.specs.Plays.{IsFullOf}
-use Rattle.row_probe.specs.Distinct.{mem, distinct}
-use Rattle.row_probe.proofs.DistinctLemmas.{distinct_is, distinct_at_most}
-use Rattle.row_probe.proofs.Members.{or_right, mem_at, at_mem, no_twice, nonzero, nonzero_mem, nonzero_short, nonzero_once}
+use Rattle.acct_base.specs.Distinct.{mem, distinct}
+use Rattle.acct_base.proofs.DistinctLemmas.{distinct_is, distinct_at_most}
+use Rattle.acct_base.proofs.Members.{or_right, mem_at, at_mem, no_twice, nonzero, nonzero_mem, nonzero_short, nonzero_once}
 use Rattle.total_rows.proofs.Spots.{place_below, same_code, at_once, sum_moved, in_sum, zero_sum}
 use Rattle.total_rows.proofs.Keeps.{nobody, no_calls, seats_stay}
 

@@ -23,10 +23,10 @@ use Rattle.total_rows.specs.declared.plan.Stage.TheVariants.{Idle}
 use Rattle.total_rows.specs.Rows.{code, spot, AllDecided, At}
 use Rattle.total_rows.specs.Sums.{if_is, added, under_way, stands_at, keys_landed}
 use Rattle.total_rows.specs.Rule.{calls, IsAdd, Kept}
-use Rattle.row_probe.specs.Distinct.{mem, NoTwice}
+use Rattle.acct_base.specs.Distinct.{mem, NoTwice}
 use Rattle.total_rows.specs.Shown.{shown}
 use Rattle.total_rows.specs.Closed.{row_amount, row_pair, rows_below, key_of, AreKeys}
-use Rattle.row_probe.proofs.Members.{or_right}
+use Rattle.acct_base.proofs.Members.{or_right}
 use Rattle.total_rows.proofs.Spots.{place_below, in_sum}
 use Rattle.total_rows.proofs.Keeps.{sole_has_all, none_added}
 use Rattle.total_rows.proofs.Counts.{apart, row_landed}

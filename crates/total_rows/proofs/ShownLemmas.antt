@@ -11,7 +11,7 @@ use Rattle.total_rows.specs.Sums.{side, if_is, added, keys_landed}
 use Rattle.total_rows.specs.Plays.{IsFullOf}
 use Rattle.total_rows.specs.Shown.{shown}
 use Rattle.total_rows.specs.Seats.{landed_keys, IsFullFor}
-use Rattle.row_probe.specs.Distinct.{mem, distinct}
+use Rattle.acct_base.specs.Distinct.{mem, distinct}
 
 keys_same : (l : List Addition) → landed_keys (map shown l) ≡ keys_landed l
 keys_same [] = refl

@@ -9,7 +9,7 @@ use Rattle.total_rows.specs.declared.plan.Stage.{Stage}
 use Rattle.total_rows.specs.declared.plan.Stage.TheVariants.{Idle, Probing, Row, Half, Looking, Reading}
 use Rattle.total_rows.specs.Rows.{code, AllDecided}
 use Rattle.total_rows.specs.Sums.{knows, added, keys_landed}
-use Rattle.row_probe.specs.Distinct.{distinct, mem}
+use Rattle.acct_base.specs.Distinct.{distinct, mem}
 use Rattle.total_rows.specs.Rule.{Stands, calls}
 
 -- A call is spent at its first step.

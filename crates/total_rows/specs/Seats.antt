@@ -6,7 +6,7 @@ use Rattle.acct_base.specs.Sums.{added}
 use Rattle.atomic_table.specs.Seated.{TableId}
 use Rattle.total_rows.specs.declared.plan.Note.{Note}
 use Rattle.total_rows.specs.Sums.{most}
-use Rattle.row_probe.specs.Distinct.{mem, distinct}
+use Rattle.acct_base.specs.Distinct.{mem, distinct}
 
 -- The totals have a table, so many rows, and so many calls that their seats may make in all.
 pub record TotalsState : Type 0 where

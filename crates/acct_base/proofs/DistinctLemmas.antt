@@ -2,7 +2,7 @@
 use Rattle.std.proofs.Common.{◌≡◌, ℕ, suc, ◌+◌, ◌≤◌, Bool, true, false, ◌||◌, nat_eq, cond, List, [], ◌∷◌, length, refl, sym, ap, ◌∙◌, subst, arith, eq-eqb, ne_eqb, true≢false}
 use mathlib.Core.Logic.{dite}
 use native.Mathlib.Decide.{ℕ_discrete}
-use Rattle.row_probe.specs.Distinct.{mem, distinct, NoTwice}
+use Rattle.acct_base.specs.Distinct.{mem, distinct, NoTwice}
 
 bit : Bool → ℕ
 bit true = 1
