@@ -1,5 +1,4 @@
 //! How the rows of a table are found: a label as two words, and the places that are tried for two words.
-//! `specs/Distinct` counts the different numbers of a list, for the contracts of the tables that stand on this.
 #![tactic(auto)]
 
 mod keys;
@@ -8,7 +7,7 @@ mod places;
 
 pub use keys::{pack1, pack2, unpack};
 pub use laws::{labels_pack_one_to_one, turns_give_each_place_once};
-pub use places::place;
+pub use places::{first_place, next_place, place};
 
 #[cfg(test)]
 mod tests {
@@ -32,5 +31,21 @@ mod tests {
     #[test]
     fn one_row_is_tried_once(rt: HostRuntime) {
         assert_eq!(rt; place(10051 * 4294967296, 4, 0, 1), 0);
+    }
+
+    // Worked out apart: the upper half of the hash of this label's words is 1424799544.
+    #[test]
+    fn places_start_by_hash_and_go_round(rt: HostRuntime) {
+        let (k1, k2) = (10051 * 4294967296, 4);
+        for (turn, rows, found) in [
+            (0, 5_000, 4544),
+            (1, 5_000, 4545),
+            (456, 5_000, 0),
+            (0, 2, 0),
+        ] {
+            assert_eq!(rt; place(k1, k2, turn, rows), found, "at turn {turn}");
+        }
+        assert_eq!(rt; first_place(k1, k2, 5_000), 4544);
+        assert_eq!(rt; next_place(4_999, 5_000), 0);
     }
 }
