@@ -1,8 +1,8 @@
 -- The turns below the number of rows give each place once, one behind another. This is all that is used of `place`.
-use Rattle.std.proofs.Common.{◌≡◌, ℕ, ◌+◌, ◌-◌, ◌/◌, ◌%◌, ◌<◌, ◌≤◌, Bool, true, false, nat_lt, if◌then◌else◌, refl, sym, ◌∙◌, arith}
+use Rattle.std.proofs.Common.{add_assoc, ◌≡◌, ◌≢◌, ap, ℕ, ◌+◌, ◌-◌, ◌/◌, ◌%◌, ◌<◌, ◌≤◌, Bool, true, false, nat_lt, if◌then◌else◌, refl, sym, ◌∙◌, arith}
 use Rattle.std.specs.Prelude.{◌==◌}
 use mathlib.Core.Logic.{◌⊎◌, inl, inr}
-use Rattle.std.proofs.Math.Nat.{mod-lt, mod-eq_of_lt, mod-eq-sub-mod}
+use Rattle.std.proofs.Math.Nat.{mod-lt, mod-eq_of_lt, mod-eq-sub-mod, mod-add-mod, mod_self}
 use Rattle.row_probe.specs.Places.{hash, home, place, next_place}
 
 -- a place and a turn come to the place itself, or to the one that is a round less
@@ -75,30 +75,22 @@ place-first k1 k2 rows l = let h = home-lt k1 k2 0 rows l in
       | inr c ↦ absurd (omega (arith, c.0, h))
     ]
 
-behind : (h turn rows p q : ℕ) → h < rows → turn + 1 < rows → p ≡ (h + turn) % rows → q ≡ (h + (turn + 1)) % rows → q ≡ next_place p rows
-behind h turn rows p q a l e f = elim (cut h turn rows a (omega (arith, l))) [
-  | inl c ↦ let s = e ∙ c.1 in elim (cut h (turn + 1) rows a l) [
-    | inl d ↦ let t = f ∙ d.1 in step (p + 1 == rows) refl (omega (arith, s, t)) (omega (arith, s, d.0))
-    | inr d ↦ let t = f ∙ d.1 in at_end (p + 1 == rows) refl (omega (arith, t, c.0, d.0)) (omega (arith, s, c.0, d.0))
-  ]
-  | inr c ↦ let s = e ∙ c.1 in elim (cut h (turn + 1) rows a l) [
-    | inl d ↦ absurd (omega (arith, c.0, d.0))
-    | inr d ↦ let t = f ∙ d.1 in step (p + 1 == rows) refl (omega (arith, s, t, c.0, d.0)) (omega (arith, s, a, l, c.0))
-  ]
-]
-  where
-    step : (b : Bool) → (p + 1 == rows) ≡ b → q ≡ p + 1 → p + 1 < rows → q ≡ (if b then 0 else p + 1)
-    step true g same below = absurd (let at : p + 1 ≡ rows = grind (arith, g) in omega (arith, at, below))
-    step false g same below = same
-
-    at_end : (b : Bool) → (p + 1 == rows) ≡ b → q ≡ 0 → p + 1 ≡ rows → q ≡ (if b then 0 else p + 1)
-    at_end true g same full = same
-    at_end false g same full = absurd (grind (arith, g, full))
-
-pub place-next : (k1 k2 turn rows : ℕ) → turn + 1 < rows → place k1 k2 (turn + 1) rows ≡ next_place (place k1 k2 turn rows) rows
+pub place-next : (k1 k2 turn rows : ℕ) → 0 < rows → place k1 k2 (turn + 1) rows ≡ next_place (place k1 k2 turn rows) rows
 unfolding place
-place-next k1 k2 turn rows l =
-    behind (home k1 k2 rows) turn rows (place k1 k2 turn rows) (place k1 k2 (turn + 1) rows) (home-lt k1 k2 turn rows (omega (arith, l))) l refl refl
+place-next k1 k2 turn rows l = one_more ∙ pick (p + 1 == rows) refl
+  where
+    p : ℕ
+    p = (home k1 k2 rows + turn) % rows
+
+    below : p < rows
+    below = mod-lt (home k1 k2 rows + turn) l
+
+    one_more : (home k1 k2 rows + (turn + 1)) % rows ≡ (p + 1) % rows
+    one_more = ap (λ n. n % rows) (sym (add_assoc (home k1 k2 rows) turn 1)) ∙ sym (mod-add-mod (home k1 k2 rows + turn) rows 1)
+
+    pick : (b : Bool) → (p + 1 == rows) ≡ b → (p + 1) % rows ≡ (if b then 0 else p + 1)
+    pick true e = let at : p + 1 ≡ rows = grind (arith, e) in ap (λ n. n % rows) at ∙ mod_self rows
+    pick false e = let other : p + 1 < rows = grind (arith, e, below) in mod-eq_of_lt other
 
 -- in the words of the code
 pub first-is : (k1 k2 rows h r : ℕ) → 0 < rows → h ≡ hash k1 k2 → r ≡ rows → h / 4294967296 % r ≡ place k1 k2 0 rows
@@ -115,3 +107,17 @@ place-by k1 k2 turn rows first l e =
       | inl c ↦ let s = c.1 in (λ b. omega (arith, s, same), λ b. absurd (omega (arith, c.0, same, b)))
       | inr c ↦ let s = c.1 in (λ b. absurd (omega (arith, c.0, same, b)), λ b. omega (arith, s, same))
     ]
+
+pub next-at : (k1 k2 turn p rows : ℕ) → 0 < rows → p + 1 ≡ rows → p ≡ place k1 k2 turn rows → 0 ≡ place k1 k2 (turn + 1) rows
+next-at k1 k2 turn p rows l at e = sym (place-next k1 k2 turn rows l ∙ ap (λ q. next_place q rows) (sym e) ∙ pick (p + 1 == rows) refl)
+  where
+    pick : (b : Bool) → (p + 1 == rows) ≡ b → (if b then 0 else p + 1) ≡ 0
+    pick true e = refl
+    pick false e = absurd (grind (arith, e, at))
+
+pub next-before : (k1 k2 turn p rows : ℕ) → 0 < rows → p + 1 ≢ rows → p ≡ place k1 k2 turn rows → p + 1 ≡ place k1 k2 (turn + 1) rows
+next-before k1 k2 turn p rows l other e = sym (place-next k1 k2 turn rows l ∙ ap (λ q. next_place q rows) (sym e) ∙ pick (p + 1 == rows) refl)
+  where
+    pick : (b : Bool) → (p + 1 == rows) ≡ b → (if b then 0 else p + 1) ≡ p + 1
+    pick true e = absurd (other (grind (arith, e)))
+    pick false e = refl

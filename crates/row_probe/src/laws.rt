@@ -17,5 +17,5 @@ pub fn turns_give_each_place_once()
     ensures within { (k1 k2 turn rows : ℕ) → turn < rows → place k1 k2 turn rows < rows }
     ensures distinct { (k1 k2 turn other rows : ℕ) → turn < rows → other < rows → place k1 k2 turn rows ≡ place k1 k2 other rows → turn ≡ other }
     ensures every { (k1 k2 i rows : ℕ) → i < rows → (turn : ℕ) × (turn < rows) × (place k1 k2 turn rows ≡ i) }
-    ensures next { (k1 k2 turn rows : ℕ) → turn + 1 < rows → place k1 k2 (turn + 1) rows ≡ next_place (place k1 k2 turn rows) rows }
+    ensures next { (k1 k2 turn rows : ℕ) → 0 < rows → place k1 k2 (turn + 1) rows ≡ next_place (place k1 k2 turn rows) rows }
 {}

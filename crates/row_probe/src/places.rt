@@ -1,6 +1,6 @@
 //! The places that are tried for a key.
 
-ghost use Rattle.std.specs.Prelude.{◌≡◌, ◌<◌, ◌≤◌, ◌+◌};
+ghost use Rattle.std.specs.Prelude.{◌≡◌, ◌<◌, ◌≤◌, ◌+◌, ℕ};
 ghost use Rattle.row_probe.specs.Places as places;
 
 /// What a key's first word is multiplied by, in its hash.
@@ -33,8 +33,8 @@ pub fn first_place(k1: u64, k2: u64, rows: u32) -> u32
 /// The place behind a place, in a table of `rows` rows. The first is behind the last.
 pub fn next_place(place: u32, rows: u32) -> u32
     requires { place < rows }
-    ensures value { result ≡ places.next_place place rows }
     ensures within { result < rows }
+    ensures follows { (k1 k2 turn : ℕ) → place ≡ places.place k1 k2 turn rows → result ≡ places.place k1 k2 (turn + 1) rows }
 {
     if place + 1 == rows { 0 } else { place + 1 }
 }
