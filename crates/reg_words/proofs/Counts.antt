@@ -14,7 +14,7 @@ use Rattle.acct_base.specs.declared.register.Write.{Write}
 use Rattle.acct_base.specs.declared.sizes.RegSizes.{RegSizes}
 use Rattle.reg_words.specs.Places.{code, rows, base, total, spot, AllDecided, At, Stays}
 use Rattle.acct_base.specs.Distinct.{mem, distinct}
-use Rattle.reg_words.specs.Counts.{map_of, codes_in, keys_in, IsWritten, Holder_of, AreOfWritten, IsSpent}
+use Rattle.reg_words.specs.Counts.{map_of, codes_in, keys_in, IsWritten, Holder, AreOfWritten, IsSpent}
 use Rattle.reg_words.specs.Finds.{IsFound}
 use Rattle.reg_words.specs.declared.place.Spot.{Spot}
 use Rattle.reg_words.specs.declared.place.Spot.TheVariants.{Known, Free}
@@ -136,7 +136,7 @@ codes_mem m (y ∷ ys) x h = dite (ℕ_discrete (map_of y.key) m)
 
 module _ (z : RegSizes) (places : List ℕ) (journal : List Write) (key : Key) (long : length places ≡ total z) (tidy : AreOfWritten z places journal) where
   -- who holds place i of the map
-  holder_in : (i : ℕ) → i < rows z key → get_or places (base z key + i) 0 ≢ 0 → (h : Holder_of z places journal (base z key + i)) × ((map_of h.key ≡ map_of key) × (code h.key ≡ get_or places (base z key + i) 0))
+  holder_in : (i : ℕ) → i < rows z key → get_or places (base z key + i) 0 ≢ 0 → (h : Holder z places journal (base z key + i)) × ((map_of h.key ≡ map_of key) × (code h.key ≡ get_or places (base z key + i) 0))
   holder_in i inside taken = let a = region z key in let h = tidy.holders (base z key + i) (omega arith) taken in let b = h.at in
       (h, (map_here z (place (code h.key) 1 h.turn (rows z h.key)) i h.key key (place-lt (code h.key) 1 h.turn (rows z h.key) b.inside) inside h.here, sym b.is ∙ ap (λ (p : ℕ). get_or places p 0) h.here))
 

@@ -429,13 +429,13 @@ module _ (z : RegSizes) where
       )
 
   -- a load by a seat that joined another tells how the two lists stand to each other
-  pub settles_reader : (slots id : ℕ) (me : M) (i : ℕ) → me.0.kind ≡ Reader → Allows Rule slots id me i (λ n. n) (λ n m. IsPrefix me.0.told me.0.list × (m.0 ≡ me.0) × (m.1 ≡ me.1))
-  settles_reader slots id me i is s r _ at _ = let d : View = me.0 in let k = as_reader s r id d is at in
-      (d, keeps, tt, staged s r i id me d is k, (prefix_short d.told d.list r.plan.list k.2 k.1 k.3, refl, refl))
+  pub settles_reader : (slots id : ℕ) (me : M) (i : ℕ) → i ≢ 0 → me.0.kind ≡ Reader → Allows Rule slots id me i (λ n. n) (λ n m. (i ≢ 0) × IsPrefix me.0.told me.0.list × (m.0 ≡ me.0) × (m.1 ≡ me.1))
+  settles_reader slots id me i other is s r _ at _ = let d : View = me.0 in let k = as_reader s r id d is at in
+      (d, keeps, tt, staged s r i id me d is k, (other, prefix_short d.told d.list r.plan.list k.2 k.1 k.3, refl, refl))
 
-  pub settles_writer : (slots id : ℕ) (me : M) (i : ℕ) → me.0.kind ≡ Writer → Allows Rule slots id me i (λ n. n) (λ n m. IsPrefix me.0.told me.0.list × (m.0 ≡ me.0) × (m.1 ≡ me.1))
-  settles_writer slots id me i is s r _ at _ = let d : View = me.0 in let k = as_writer s r id d is at in
-      (d, keeps, tt, unmoved s r i id me.1 d (subst (Knows z r.plan r.writer id d) (sym is) k), (subst (λ (y : View). IsPrefix y.told y.list) (sym k.0) r.brought, refl, refl))
+  pub settles_writer : (slots id : ℕ) (me : M) (i : ℕ) → i ≢ 0 → me.0.kind ≡ Writer → Allows Rule slots id me i (λ n. n) (λ n m. (i ≢ 0) × IsPrefix me.0.told me.0.list × (m.0 ≡ me.0) × (m.1 ≡ me.1))
+  settles_writer slots id me i other is s r _ at _ = let d : View = me.0 in let k = as_writer s r id d is at in
+      (d, keeps, tt, unmoved s r i id me.1 d (subst (Knows z r.plan r.writer id d) (sym is) k), (other, subst (λ (y : View). IsPrefix y.told y.list) (sym k.0) r.brought, refl, refl))
 
   -- what a note that is cut off a seat knows
   note_knows : (p : View) (writer id j : ℕ) (d : View) → p.limits ≡ z → (k : Kind) → k ≢ Gone → Knows z p writer id d k → Knows z p writer j (fresh_right d) Reader

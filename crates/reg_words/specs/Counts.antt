@@ -30,7 +30,7 @@ abbrev pub IsWritten : List Write → Key → Type 0
 IsWritten journal key = (i : ℕ) × ((w : Write) × (get_elem? journal i ≡ some w) × (w.key ≡ key))
 
 -- The place is held by a key that was written.
-pub record Holder_of (z : RegSizes) (places : List ℕ) (journal : List Write) (place : ℕ) : Type 0 where
+pub record Holder (z : RegSizes) (places : List ℕ) (journal : List Write) (place : ℕ) : Type 0 where
   pub key : Key
   pub turn : ℕ
   pub at : At z places key turn
@@ -40,7 +40,7 @@ pub record Holder_of (z : RegSizes) (places : List ℕ) (journal : List Write) (
 -- The places that are taken are those of the written keys.
 pub record AreOfWritten (z : RegSizes) (places : List ℕ) (journal : List Write) : Type 0 where
   pub placed : AllPlaced z places journal
-  pub holders : (p : ℕ) → p < total z → slice_index places p ≢ 0 → Holder_of z places journal p
+  pub holders : (p : ℕ) → p < total z → slice_index places p ≢ 0 → Holder z places journal p
 
 -- The key was never written, and as many different keys of its map were as it has places.
 abbrev pub IsSpent : RegSizes → List Write → Key → Type 0

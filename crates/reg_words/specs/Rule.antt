@@ -112,11 +112,13 @@ joined a b = record a { list = longer a.list b.list; told = shorter a.list b.lis
 abbrev pub was_told : View → View → View
 was_told a b = record a { told = b.list }
 
-abbrev Sat : Type 0
-Sat = Me (Unit {0}) View
+-- What a seat has at the table.
+abbrev Seated : Type 0
+Seated = Me (Unit {0}) View
 
-abbrev At_step : Type 0
-At_step = Step (Unit {0})
+-- Of which word a step is.
+abbrev AtStep : Type 0
+AtStep = Step (Unit {0})
 
 abbrev pub write_of : Key → Option ℕ → Write
 write_of k o = record { key = k; value = o }
@@ -125,16 +127,16 @@ abbrev pub seen_at : ℕ → Option ℕ → Seen
 seen_at v o = record { version = v; value = o }
 
 -- What the writer's stores leave. A write takes its place in the journal at its register's store.
-abbrev pub stored_value : At_step → Sat → ℕ → Sat → Type 0
+abbrev pub stored_value : AtStep → Seated → ℕ → Seated → Type 0
 stored_value st m r m' = (m'.0 ≡ record m.0 { pending = Some r }) × (m'.1 ≡ m.1)
 
-abbrev pub stored_key : At_step → Sat → ℕ → Sat → Type 0
+abbrev pub stored_key : AtStep → Seated → ℕ → Seated → Type 0
 stored_key st m r m' = (m'.0 ≡ record m.0 { places = slice_set m.0.places (st.word - 1) r }) × (m'.1 ≡ m.1)
 
-abbrev pub stored_register : Key → At_step → Sat → ℕ → Sat → Type 0
+abbrev pub stored_register : Key → AtStep → Seated → ℕ → Seated → Type 0
 stored_register key st m r m' = (m'.0 ≡ record m.0 { list = m.0.list ++ write_of key m.0.pending ∷ []; pending = None }) × (m'.1 ≡ m.1)
 
-abbrev pub stored_front : At_step → Sat → ℕ → Sat → Type 0
+abbrev pub stored_front : AtStep → Seated → ℕ → Seated → Type 0
 stored_front st m r m' = (m'.0 ≡ record m.0 { front = r }) × (m'.1 ≡ m.1)
 
 -- A load of the front: what the reader knew is a prefix of what it knows, which is as many writes as the greater of the two numbers.
@@ -180,18 +182,18 @@ pub record Valued (key : Key) (version : ℕ) (m : View) (r : ℕ) (m' : View) :
   pub form : IsValueOf key r
   pub after : m' ≡ record m { reads = m.reads ++ (key, seen_at version (Some r)) ∷ [] }
 
-abbrev pub loaded_front : At_step → Sat → ℕ → Sat → Type 0
+abbrev pub loaded_front : AtStep → Seated → ℕ → Seated → Type 0
 loaded_front st m r m' = Fronted m.0 r m'.0 × (m'.1 ≡ m.1)
 
-abbrev pub loaded_key : Key → ℕ → At_step → Sat → ℕ → Sat → Type 0
+abbrev pub loaded_key : Key → ℕ → AtStep → Seated → ℕ → Seated → Type 0
 loaded_key key turn st m r m' = Probed key turn m.0 r m'.0 × (m'.1 ≡ m.1)
 
-abbrev pub loaded_register : Key → At_step → Sat → ℕ → Sat → Type 0
+abbrev pub loaded_register : Key → AtStep → Seated → ℕ → Seated → Type 0
 loaded_register key st m r m' = Registered key m.0 r m'.0 × (m'.1 ≡ m.1)
 
-abbrev pub loaded_value : Key → ℕ → At_step → Sat → ℕ → Sat → Type 0
+abbrev pub loaded_value : Key → ℕ → AtStep → Seated → ℕ → Seated → Type 0
 loaded_value key version st m r m' = Valued key version m.0 r m'.0 × (m'.1 ≡ m.1)
 
--- A load after a join, by the writer or by a reader, tells that the shorter list begins the longer.
-abbrev pub settled : At_step → Sat → ℕ → Sat → Type 0
-settled st m r m' = IsPrefix m.0.told m.0.list × (m'.0 ≡ m.0) × (m'.1 ≡ m.1)
+-- A load after a join, by the writer or by a reader, tells that the shorter list begins the longer. It is of a key's word, never of the front.
+abbrev pub settled : AtStep → Seated → ℕ → Seated → Type 0
+settled st m r m' = (st.word ≢ 0) × IsPrefix m.0.told m.0.list × (m'.0 ≡ m.0) × (m'.1 ≡ m.1)

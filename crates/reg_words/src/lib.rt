@@ -21,6 +21,7 @@ mod subject;
 #[cfg(test)]
 mod tests;
 mod view;
+mod words;
 mod writer;
 mod writes;
 

@@ -1,7 +1,6 @@
 //! How registers begin and end.
 
 ghost use Rattle.std.specs.Prelude.{◌≡◌, ◌≤◌, [], length, IfOk, replicate, ◌<◌, ◌^◌};
-ghost use Rattle.reg_words.specs.Origins.{origin};
 ghost use Rattle.acct_base.specs.Ranges.{AreRegSizes};
 
 use crate::place::total_of;
@@ -9,6 +8,7 @@ use crate::reader::Reader;
 use crate::regs::Regs;
 use crate::room::JournalRoom;
 use crate::steps::SplitReader;
+use crate::words::Words;
 use crate::writer::Writer;
 use acct_base::{RegSizes, WriteList};
 use atomic_table::Table;
@@ -27,9 +27,9 @@ impl Regs {
     /// published. All memory that the registers and their seats ever need is taken here.
     pub fn new(alloc: Global, sizes: &RegSizes) -> Result<(Regs, Writer, Reader), AllocError>
         requires { AreRegSizes sizes.now }
-        ensures limits { IfOk result (λ t. (origin t.0).limits ≡ sizes.now) }
-        ensures writer { IfOk result (λ t. t.1 ≡ record { origin = origin t.0; journal = []; front = 0 }) }
-        ensures reader { IfOk result (λ t. t.2 ≡ record { origin = origin t.0; known = []; loads = 0; loaded = 0; reads = [] }) }
+        ensures limits { IfOk result (λ t. t.0.limits ≡ sizes.now) }
+        ensures writer { IfOk result (λ t. t.1 ≡ record { origin = t.0; journal = []; front = 0 }) }
+        ensures reader { IfOk result (λ t. t.2 ≡ record { origin = t.0; known = []; loads = 0; loaded = 0; reads = [] }) }
     {
         let total = total_of(sizes);
         let words = zeros(alloc, 1 + total + total + u64::from(sizes.writes))?;
@@ -37,7 +37,7 @@ impl Regs {
         let journal = Vec::with_capacity(alloc, sizes.writes as usize)?;
         let (table, mut seat) = Table::of_words(alloc, words.as_slice(), sizes)?;
         let other = table.shared.split_seat::<SplitReader>(&mut seat);
-        let regs = Regs {
+        let words = Words {
             table,
             limits: *sizes,
         };
@@ -51,13 +51,13 @@ impl Regs {
             seat: other,
             seen: 0,
         };
-        Ok((regs, writer, reader))
+        Ok((Regs { words }, writer, reader))
     }
 
     /// The journal, in the memory in which the writer kept it. The registers and all that their other seats
     /// knew are gone. It takes no memory and waits for nobody.
     pub fn close(self, w: Writer, room: JournalRoom) -> WriteList
-        requires from { w.origin ≡ origin self }
+        requires from { w.origin ≡ self }
         requires room { length w.journal ≤ room }
         ensures { result ≡ w.journal }
     {

@@ -5,7 +5,14 @@ ghost use Rattle.reg_words.specs.Finds.{IsFound};
 ghost use Rattle.reg_words.specs.Places.{code, rows, base, total, spot, AllDecided};
 
 use acct_base::{Key, RegSizes};
-use row_probe::place;
+use row_probe::{first_place, next_place, place};
+
+/// A turn of a key's search, with the place that is tried at it.
+#[derive(Clone, Copy)]
+pub struct Try {
+    pub turn: u32,
+    pub spot: u64,
+}
 
 /// The turn at which a look found the key, or the first free place.
 #[derive(Clone, Copy)]
@@ -39,7 +46,7 @@ pub fn rows_of(limits: &RegSizes, key: Key) -> u32
 }
 
 /// The first place of the key's map.
-fn base_of(limits: &RegSizes, key: Key) -> u64
+pub fn base_of(limits: &RegSizes, key: Key) -> u64
     ensures base { result ≡ base limits.now key }
     ensures small { result < 2 ^ 34 }
 {
@@ -76,14 +83,20 @@ pub fn find(limits: &RegSizes, places: &[u64], key: Key) -> Option<Spot>
     ensures { MatchOption result (AllDecided limits.now places.now key (rows limits.now key)) (λ s. IsFound limits.now places.now key s) }
 {
     let code = code_of(key);
-    for turn in 0..rows_of(limits, key) {
-        let found = places[spot_of(limits, key, turn) as usize];
+    let rows = rows_of(limits, key);
+    let base = base_of(limits, key);
+    let mut place = first_place(code, 1, rows);
+    for turn in 0..rows {
+        // The loop's invariant speaks of the key.
+        let _ = key;
+        let found = places[(base + u64::from(place)) as usize];
         if found == code {
             return Some(Spot::Known(turn));
         }
         if found == 0 {
             return Some(Spot::Free(turn));
         }
+        place = next_place(place, rows);
     }
     None
 }

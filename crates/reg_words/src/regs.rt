@@ -1,21 +1,20 @@
-//! The registers: one table of words for all seats.
+//! The registers.
 
-ghost use Rattle.std.specs.Prelude.{◌≡◌, ◌+◌};
-ghost use Rattle.reg_words.specs.Places.{total};
-ghost use Rattle.acct_base.specs.Ranges.{AreRegSizes};
+use crate::words::Words;
+use std::marker::Model;
 
-use crate::view::WordTable;
-use acct_base::RegSizes;
-
-/// The registers. Word 0 is the front. Of place p, word 1 + p is the key and word 1 + places + p the register:
-/// twice the number of the key's last write, and 1 more where that write has a value. Word 1 + 2 places + i is
-/// the value of write i + 1.
+/// The registers, which one writer writes and any number of readers read. They are seen as where they come
+/// from: their table, and their limits.
 #[derive(Drop)]
 pub struct Regs {
-    pub(crate) table: WordTable,
-    pub(crate) limits: RegSizes,
-    pub ghost keyed: { table.shared.key ≡ limits },
-    pub ghost wide: { table.shared.table_id.words ≡ 1 + total limits + total limits + limits.writes },
-    pub ghost slotless: { table.shared.table_id.slots ≡ 0 },
-    pub ghost limited: { AreRegSizes limits },
+    pub(crate) words: Words,
+}
+
+impl Model for Regs {
+    ghost use Rattle.reg_words.specs.Seats.{Origin};
+    ghost use Rattle.reg_words.specs.Origins.{origin};
+
+    ghost Value = { Origin };
+
+    ghost view = { λ regs. origin regs.words };
 }

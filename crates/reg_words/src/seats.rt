@@ -2,7 +2,7 @@
 
 ghost use Rattle.std.specs.Prelude.{◌≡◌, ◌++◌, [], length, max};
 ghost use Rattle.reg_words.specs.Journal.{longer};
-ghost use Rattle.reg_words.specs.Origins.{origin, IsSeatOf, IsSameSeat};
+ghost use Rattle.reg_words.specs.Origins.{IsSeatOf, IsSameSeat};
 ghost use Rattle.reg_words.specs.Registers.{IsPrefix};
 ghost use Rattle.reg_words.specs.declared.view.Kind.TheVariants.{Writer as AsWriter, Reader as AsReader};
 
@@ -10,6 +10,7 @@ use crate::reader::Reader;
 use crate::regs::Regs;
 use crate::steps::{JoinReader, Settle, SplitReader, TellWriter};
 use crate::view::TableSeat;
+use crate::words::Words;
 use crate::writer::Writer;
 
 /// The word of the first key place. Its loads tell what a join brought, and nothing counts them.
@@ -19,19 +20,19 @@ impl Regs {
     /// A new reader that knows what this one knows, and has neither loaded the front nor read. It takes no memory
     /// and waits for nobody.
     pub fn split(&self, r: &mut Reader) -> Reader
-        requires from { r.old.origin ≡ origin self.now }
+        requires from { r.old.origin ≡ self.now }
         ensures first { r.new ≡ r.old }
         ensures other { result ≡ record r.old { loads = 0; loaded = 0; reads = [] } }
     {
-        let seat = self.table.shared.split_seat::<SplitReader>(&mut r.seat);
+        let seat = self.words.table.shared.split_seat::<SplitReader>(&mut r.seat);
         Reader { seat, seen: r.seen }
     }
 
     /// Takes another reader in. What either of the two knew is a prefix of what this one knows afterwards, and
     /// its reads are followed by the other's. It takes no memory and waits for nobody.
     pub fn join(&self, r: &mut Reader, other: Reader)
-        requires from { r.old.origin ≡ origin self.now }
-        requires other { other.origin ≡ origin self.now }
+        requires from { r.old.origin ≡ self.now }
+        requires other { other.origin ≡ self.now }
         ensures from { r.new.origin ≡ r.old.origin }
         ensures first { IsPrefix r.old.known r.new.known }
         ensures second { IsPrefix other.known r.new.known }
@@ -40,25 +41,27 @@ impl Regs {
         ensures reads { r.new.reads ≡ r.old.reads ++ other.reads }
     {
         let Reader { seat, seen } = other;
-        self.join_readers(&mut r.seat, seat);
+        self.words.join_readers(&mut r.seat, seat);
         r.seen = r.seen.max(seen);
     }
 
     /// The reader learns the whole journal, published or not; what it knew is a prefix of it. Nothing else
     /// changes. One note goes each way, and it takes no memory and waits for nobody.
     pub fn meet(&self, r: &mut Reader, w: &mut Writer)
-        requires reader { r.old.origin ≡ origin self.now }
-        requires writer { w.old.origin ≡ origin self.now }
+        requires reader { r.old.origin ≡ self.now }
+        requires writer { w.old.origin ≡ self.now }
         ensures knows { r.new ≡ record r.old { known = w.old.journal } }
         ensures grows { IsPrefix r.old.known w.old.journal }
         ensures writer { w.new ≡ w.old }
     {
-        self.tell(&mut r.seat, &mut w.seat);
-        let note = self.table.shared.split_seat::<SplitReader>(&mut w.seat);
-        self.table.shared.join_seat::<JoinReader>(&mut r.seat, note);
+        self.words.tell(&mut r.seat, &mut w.seat);
+        let note = self.words.table.shared.split_seat::<SplitReader>(&mut w.seat);
+        self.words.table.shared.join_seat::<JoinReader>(&mut r.seat, note);
         r.seen = w.journal.len() as u32;
     }
+}
 
+impl Words {
     // Joins another reader's seat in, and loads a word that tells how the two lists stand to each other.
     fn join_readers(&self, seat: &mut TableSeat, other: TableSeat)
         requires table { IsSeatOf self.now seat.old × IsSeatOf self.now other }

@@ -11,13 +11,13 @@ ghost use Rattle.reg_words.specs.Rule.{write_of};
 ghost use Rattle.reg_words.specs.declared.view.Kind.TheVariants.{Writer as AsWriter};
 
 use crate::place::{Spot, code_of, spot_of, total_of};
-use crate::regs::Regs;
+use crate::words::Words;
 use crate::steps::{StoreFront, StoreKey, StoreRegister, StoreValue};
 use crate::subject::Subject;
 use crate::view::TableSeat;
 use acct_base::Key;
 
-impl Regs {
+impl Words {
     // Stores a value for the next write.
     fn store_value(&self, seat: &mut TableSeat, made: u32, value: u64)
         requires table { IsSeatOf self.now seat.old }

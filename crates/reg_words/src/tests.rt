@@ -1,7 +1,6 @@
 //! The calls in order, and a reader on a thread of its own.
 
 ghost use Rattle.std.specs.Prelude.{◌≡◌};
-ghost use Rattle.reg_words.specs.Origins.{origin};
 
 use crate::{JournalRoom, Reader, Regs, Writer};
 use acct_base::{Key, RegSizes, Seen, Write};
@@ -55,8 +54,8 @@ const WRITES: u32 = 200;
 
 // Write number n has the value n.
 fn write_all(regs: &Regs, mut writer: Writer) -> Writer
-    requires { writer.origin ≡ origin regs.now }
-    ensures { result.origin ≡ origin regs.now }
+    requires { writer.origin ≡ regs.now }
+    ensures { result.origin ≡ regs.now }
 {
     for value in 1..=WRITES {
         let _ = regs.write(&mut writer, Key::Cookie(5), Some(u64::from(value)));
@@ -67,7 +66,7 @@ fn write_all(regs: &Regs, mut writer: Writer) -> Writer
 
 // Whether each read gives a write that the journal had, none older than the front or than the read before.
 fn read_all(regs: &Regs, mut reader: Reader) -> bool
-    requires { reader.origin ≡ origin regs.now }
+    requires { reader.origin ≡ regs.now }
 {
     for _ in 0..100_000 {
         let front = regs.front(&mut reader);
@@ -107,10 +106,10 @@ fn a_reader_reads_while_the_writer_writes(rt: HostRuntime) -> Result<(), Fail> {
     let (writer, is_true) = thread::join(
         &rt,
         move || -> Writer
-            requires { writer.origin ≡ origin shared.now }
+            requires { writer.origin ≡ shared.now }
         { write_all(shared, writer) },
         move || -> bool
-            requires { reader.origin ≡ origin shared.now }
+            requires { reader.origin ≡ shared.now }
         { read_all(shared, reader) },
     );
     assert!(rt; is_true);

@@ -5,7 +5,7 @@ ghost use Rattle.acct_base.specs.declared.register.Key.TheVariants.{Cookie};
 ghost use Rattle.acct_base.specs.Journal.{last_write};
 ghost use Rattle.reg_words.specs.Counts.{AreOfWritten};
 ghost use Rattle.reg_words.specs.Finds.{IsFound};
-ghost use Rattle.reg_words.specs.Origins.{origin, IsSeatOf, IsSameSeat};
+ghost use Rattle.reg_words.specs.Origins.{IsSeatOf, IsSameSeat};
 ghost use Rattle.reg_words.specs.Places.{code, rows, total};
 ghost use Rattle.reg_words.specs.Registers.{AreKeysSpent};
 ghost use Rattle.acct_base.specs.Registers.{IsValueOf};
@@ -15,6 +15,7 @@ ghost use Rattle.reg_words.specs.declared.view.Kind.TheVariants.{Writer as AsWri
 use crate::place::{Spot, find};
 use crate::regs::Regs;
 use crate::view::TableSeat;
+use crate::words::Words;
 use crate::writer::Writer;
 use acct_base::{Key, Write};
 use std::marker::Brand;
@@ -31,7 +32,7 @@ pub enum WriteError {
     JournalFull,
 }
 
-impl Regs {
+impl Words {
     // Where the key stands, or where it may. None where the keys of its map are spent.
     fn look(&self, seat: &TableSeat, places: &[u64], key: Key) -> Option<Spot>
         requires table { IsSeatOf self.now seat.now }
@@ -72,6 +73,9 @@ impl Regs {
         self.store_register::<Brand>(seat, made, write.key, turn, flag);
     }
 
+}
+
+impl Regs {
     /// Appends a write to the journal, by four stores at most, and answers its number, from 1. It takes no
     /// memory and waits for nobody. A value of None takes the key's entry out.
     ///
@@ -79,7 +83,7 @@ impl Regs {
     /// limit; Enabled never meets it. JournalFull comes exactly where the journal is full and KeysSpent does
     /// not come. A refusal changes nothing.
     pub fn write(&self, w: &mut Writer, key: Key, value: Option<u64>) -> Result<u32, WriteError>
-        requires from { w.old.origin ≡ origin self.now }
+        requires from { w.old.origin ≡ self.now }
         requires key { key ≢ Cookie 0 }
         requires value { IfSome value (IsValueOf key) }
         ensures from { w.new.origin ≡ w.old.origin }
@@ -90,26 +94,26 @@ impl Regs {
         ensures spent { result ≡ Err WriteError.KeysSpent ↔ AreKeysSpent w.old.origin.limits w.old.journal key }
         ensures full { result ≡ Err WriteError.JournalFull ↔ (length w.old.journal ≡ w.old.origin.limits.writes) × (AreKeysSpent w.old.origin.limits w.old.journal key → ⊥) }
     {
-        let Some(spot) = self.look(&w.seat, w.places.as_slice(), key) else {
+        let Some(spot) = self.words.look(&w.seat, w.places.as_slice(), key) else {
             return Err(WriteError::KeysSpent);
         };
         let made = w.journal.len() as u32;
-        if made >= self.limits.writes {
+        if made >= self.words.limits.writes {
             return Err(WriteError::JournalFull);
         }
         let write = Write { key, value };
-        self.store_write(&mut w.seat, &mut w.places, made, write, spot);
+        self.words.store_write(&mut w.seat, &mut w.places, made, write, spot);
         w.journal.push_reserved(write);
         Ok(made + 1)
     }
 
     /// Publishes all writes: `front()` becomes `made()`. It takes no memory and waits for nobody.
     pub fn publish(&self, w: &mut Writer)
-        requires from { w.old.origin ≡ origin self.now }
+        requires from { w.old.origin ≡ self.now }
         ensures { w.new ≡ record w.old { front = length w.old.journal } }
     {
         let made = w.journal.len() as u32;
-        self.store_front(&mut w.seat, made);
+        self.words.store_front(&mut w.seat, made);
         w.front = made;
     }
 }

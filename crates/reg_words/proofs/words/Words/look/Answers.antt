@@ -2,8 +2,8 @@ use Rattle.std.proofs.Common.{rules, refl, subst, List, ℕ}
 use Rattle.acct_base.specs.declared.sizes.RegSizes.{RegSizes}
 use Rattle.reg_words.specs.Counts.{AreOfWritten}
 use Rattle.reg_words.proofs.Counts.{found_or_spent, room_left}
-use Rattle.reg_words.proofs.regs.Regs.look.Goals as goal
-use Rattle.reg_words.proofs.regs.Regs.look.Goals.{After-find}
+use Rattle.reg_words.proofs.words.Words.look.Goals as goal
+use Rattle.reg_words.proofs.words.Words.look.Goals.{After-find}
 
 tidy : (c : After-find) → ∥ AreOfWritten c.args.self.now.limits c.args.places.now c.args.seat.now.me.0.list ∥₁
 tidy c = subst (λ (p : List ℕ). ∥ AreOfWritten c.args.self.now.limits p c.args.seat.now.me.0.list ∥₁) (search rules)

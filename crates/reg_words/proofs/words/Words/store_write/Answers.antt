@@ -4,7 +4,7 @@ use Rattle.reg_words.specs.declared.view.View.{View}
 use Rattle.reg_words.specs.Places.{At, spot, Stays}
 use Rattle.reg_words.specs.Counts.{AreOfWritten}
 use Rattle.reg_words.proofs.Counts.{tidy_more}
-use Rattle.reg_words.proofs.regs.Regs.store_write.Goals as goal
+use Rattle.reg_words.proofs.words.Words.store_write.Goals as goal
 
 pub returns-clause-held : goal.returns-clause-held
 returns-clause-held c = let d : View = c.args.seat.now.me.0 in
