@@ -8,7 +8,7 @@ ghost use Rattle.desk_core.specs.Commands.{spends_keys, cookies_tagged, unlisted
 
 use crate::command::Decision;
 use crate::register::Latest;
-use acct_base::{Key, RegSizes, Seen, Tag, Uid, Write, WriteList};
+use acct_base::{Key, List, RegSizes, Seen, Tag, Uid, Write, WriteList};
 use std::alloc::{AllocError, Global};
 use std::marker::Model;
 
@@ -57,6 +57,22 @@ impl Book {
         ensures { result ≡ seen_now self.now.journal key }
     {
         self.latest.read(key)
+    }
+
+    /// How many writes there are.
+    pub fn made(&self) -> u32
+        ensures { result ≡ length self.now.journal }
+    {
+        // The journal is no longer than its limit, which is a u32.
+        let _limit = self.limits.writes;
+        self.journal.len() as u32
+    }
+
+    /// All writes, in order.
+    pub fn into_journal(self) -> WriteList
+        ensures { result ≡ self.journal }
+    {
+        List::from_vec(self.journal)
     }
 
     /// Appends the writes of a decision of this book. Where memory is wanting the book stays as it was.
