@@ -1,5 +1,5 @@
 -- What registers may hold: the form of each key's value, and the maps of their keys with their limits.
-use Rattle.std.specs.Prelude.{◌≡◌, ◌≢◌, ℕ, ◌<◌, ◌≤◌, ◌^◌, List, length, filter_map, Option, None, Some}
+use Rattle.std.specs.Prelude.{◌≡◌, ◌≢◌, ℕ, ◌<◌, ◌≤◌, ◌^◌, List, length, filter_map, Option, None, Some, IfSome}
 use Rattle.std.specs.Ordering.{nat_cmp}
 use Rattle.acct_base.specs.declared.register.Key.{Key}
 use Rattle.acct_base.specs.declared.register.Key.TheVariants.{Cookie, Set, Owner, Enabled}
@@ -25,7 +25,7 @@ IsValueOf Enabled word = word < 2 ^ 32
 -- A write that registers take: of a key that can be written, and with a value of the key's form where it has one.
 pub record IsWellFormed (w : Write) : Type 0 where
   pub key : IsWritable w.key
-  pub value : (word : ℕ) → w.value ≡ Some word → IsValueOf w.key word
+  pub value : IfSome w.value (IsValueOf w.key)
 
 -- The cookie of a write to a cookie's register.
 abbrev pub cookie_of : Write → Option ℕ

@@ -1,9 +1,10 @@
-ghost use Rattle.std.specs.Prelude.{◌≡◌, ℕ, ◌+◌, ◌<◌, ◌^◌, [], ◌∷◌, ◌++◌, map, length, nat_le, not, IfOk, OnOk, OnErr};
+ghost use Rattle.std.specs.Prelude.{◌≡◌, ℕ, ◌+◌, ◌<◌, ◌^◌, [], ◌∷◌, ◌++◌, map, length, nat_le, not, IfSome, IfOk, OnOk, OnErr};
 ghost use Rattle.std.specs.List.Sorted.{IsStrictlyIncreasing};
 ghost use Rattle.acct_base.specs.declared.register.Write.{Write};
 ghost use Rattle.acct_base.specs.declared.register.Key.TheVariants.{Cookie};
 ghost use Rattle.desk_core.specs.Ranges.{AreApps};
-ghost use Rattle.desk_core.specs.Registers.{seen_now};
+ghost use Rattle.acct_base.specs.Registers.{IsValueOf};
+ghost use Rattle.desk_core.specs.Registers.{seen_now, unseen};
 ghost use Rattle.desk_core.specs.Commands.{spends_keys, cookies_tagged, unlisted, clear, take_bit, replacement};
 
 use crate::command::Decision;
@@ -54,7 +55,9 @@ impl Book {
     /// What a read of a key sees, by one who knows all writes: the number of the key's last write, or 0, and
     /// that write's value.
     pub fn read(&self, key: Key) -> Seen
-        ensures { result ≡ seen_now self.now.journal key }
+        ensures seen { result ≡ seen_now self.now.journal key }
+        ensures value { IfSome result.value (IsValueOf key) }
+        ensures no_socket { key ≡ Cookie 0 → result ≡ unseen }
     {
         self.latest.read(key)
     }
