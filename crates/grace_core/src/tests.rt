@@ -1,5 +1,5 @@
 use super::*;
-use acct_base::{Amount, Dir, Label, Row};
+use acct_base::{Amount, Charge, Dir, Label, Row};
 use std::alloc::AllocError;
 
 fn job() -> Job {
@@ -59,6 +59,55 @@ fn a_collector_waits_for_the_hook_inside(rt: HostRuntime) -> Result<(), AllocErr
     };
     assert_eq!(rt; snapshot.phase, 0);
     assert_eq!(rt; snapshot.rows.as_slice(), [row].as_slice());
+    Ok(())
+}
+
+/// A call charges two labels: the first takes the one row, and the second meets a full map. A third is none.
+#[test]
+fn a_second_label_meets_a_full_map(rt: HostRuntime) -> Result<(), AllocError> {
+    let mut state = start(rt.alloc(), 1, 4)?;
+    let first = job();
+    let mut second = job();
+    second.label.tag = 7;
+    let events = [
+        Event::Enter { hook: 0 },
+        Event::ClaimFirst {
+            hook: 0,
+            job: first,
+        },
+        Event::ClaimSecond { hook: 0 },
+        Event::Add { hook: 0 },
+        Event::Add { hook: 0 },
+        Event::ClaimFirst {
+            hook: 0,
+            job: second,
+        },
+    ];
+    for event in &events {
+        assert!(rt; step(rt.alloc(), &mut state, event)?, "{event:?}");
+    }
+    let third = Event::ClaimFirst {
+        hook: 0,
+        job: first,
+    };
+    assert!(rt; !step(rt.alloc(), &mut state, &third)?);
+    assert!(rt; step(rt.alloc(), &mut state, &Event::Exit { hook: 0 })?);
+    let Some(view) = state.hooks.get(0) else {
+        panic!(rt; "no view");
+    };
+    let charges = [
+        Charge {
+            phase: 0,
+            job: first,
+            landed: true,
+        },
+        Charge {
+            phase: 0,
+            job: second,
+            landed: false,
+        },
+    ];
+    assert_eq!(rt; view.list.as_slice(), charges.as_slice());
     Ok(())
 }
 
