@@ -13,10 +13,10 @@ ghost use Rattle.reg_words.specs.declared.view.Kind.TheVariants.{Writer as AsWri
 ghost use Rattle.reg_words.specs.declared.view.Stage.TheVariants.{Idle, Found};
 
 use crate::place::{Try, base_of, code_of, rows_of, total_of};
-use crate::words::Words;
 use crate::steps::{LoadFront, LoadKey, LoadRegister, LoadValue};
 use crate::subject::Subject;
 use crate::view::TableSeat;
+use crate::words::Words;
 use acct_base::Key;
 use row_probe::{first_place, next_place};
 use std::marker::Brand;

@@ -13,8 +13,8 @@ ghost use Rattle.reg_words.specs.declared.view.Stage.TheVariants.{Idle};
 use crate::place::code_of;
 use crate::reader::Reader;
 use crate::regs::Regs;
-use crate::words::Words;
 use crate::view::TableSeat;
+use crate::words::Words;
 use acct_base::{Key, Seen};
 use std::marker::Brand;
 
@@ -59,7 +59,6 @@ impl Words {
             value: Some(value),
         }
     }
-
 }
 
 impl Regs {

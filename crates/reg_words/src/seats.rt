@@ -24,7 +24,11 @@ impl Regs {
         ensures first { r.new ≡ r.old }
         ensures other { result ≡ record r.old { loads = 0; loaded = 0; reads = [] } }
     {
-        let seat = self.words.table.shared.split_seat::<SplitReader>(&mut r.seat);
+        let seat = self
+            .words
+            .table
+            .shared
+            .split_seat::<SplitReader>(&mut r.seat);
         Reader { seat, seen: r.seen }
     }
 
@@ -55,8 +59,15 @@ impl Regs {
         ensures writer { w.new ≡ w.old }
     {
         self.words.tell(&mut r.seat, &mut w.seat);
-        let note = self.words.table.shared.split_seat::<SplitReader>(&mut w.seat);
-        self.words.table.shared.join_seat::<JoinReader>(&mut r.seat, note);
+        let note = self
+            .words
+            .table
+            .shared
+            .split_seat::<SplitReader>(&mut w.seat);
+        self.words
+            .table
+            .shared
+            .join_seat::<JoinReader>(&mut r.seat, note);
         r.seen = w.journal.len() as u32;
     }
 }

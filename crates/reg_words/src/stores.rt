@@ -11,10 +11,10 @@ ghost use Rattle.reg_words.specs.Rule.{write_of};
 ghost use Rattle.reg_words.specs.declared.view.Kind.TheVariants.{Writer as AsWriter};
 
 use crate::place::{Spot, code_of, spot_of, total_of};
-use crate::words::Words;
 use crate::steps::{StoreFront, StoreKey, StoreRegister, StoreValue};
 use crate::subject::Subject;
 use crate::view::TableSeat;
+use crate::words::Words;
 use acct_base::Key;
 
 impl Words {

@@ -72,7 +72,6 @@ impl Words {
         let turn = self.claim(seat, places, write.key, spot);
         self.store_register::<Brand>(seat, made, write.key, turn, flag);
     }
-
 }
 
 impl Regs {
@@ -102,7 +101,8 @@ impl Regs {
             return Err(WriteError::JournalFull);
         }
         let write = Write { key, value };
-        self.words.store_write(&mut w.seat, &mut w.places, made, write, spot);
+        self.words
+            .store_write(&mut w.seat, &mut w.places, made, write, spot);
         w.journal.push_reserved(write);
         Ok(made + 1)
     }
