@@ -1,7 +1,14 @@
 pub mod Lines
-pub mod Script
-pub mod Laws
+pub mod Lanes
+pub mod Kinds
+pub mod Order
+pub mod Parts
+pub mod Limits
 pub mod Faults
+pub mod Script
+pub mod Cuts
 pub mod Pieces
 pub mod Digits
 pub mod Drafts
+pub mod Prints
+pub mod Laws

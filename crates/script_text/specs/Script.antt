@@ -1,136 +1,72 @@
--- A script: of which lines its parts are made, how they are numbered, and which limits they keep.
-use Rattle.std.specs.Prelude.{◌≡◌, ◌⊎◌, ℕ, ◌+◌, ◌≤◌, List, [], ◌∷◌, ◌++◌, length, map, sum_by, codes}
-use Rattle.std.specs.List.{flat_map, AllByRecursion}
-use Rattle.acct_base.specs.declared.sizes.Sizes.{Sizes}
-use Rattle.script_text.specs.declared.hook_line.HookLine.{HookLine}
-use Rattle.script_text.specs.declared.line.Line.{Line}
-use Rattle.script_text.specs.declared.line.Line.TheVariants as lines
+-- A script as a whole, and the line that decides on a text that is none.
+use Rattle.std.specs.Prelude.{◌≡◌, ◌⊎◌, ℕ, ◌+◌, List, [], ◌∷◌, ◌++◌, take}
+use Rattle.std.specs.List.{flat_map}
 use Rattle.script_text.specs.declared.header.Header.{Header}
 use Rattle.script_text.specs.declared.section.Section.{Section}
 use Rattle.script_text.specs.declared.limits.Counts.{Counts}
-use Rattle.script_text.specs.Lines.{IsLine, spelled}
+use Rattle.script_text.specs.declared.limits.Tally.{Tally}
+use Rattle.script_text.specs.declared.place.Place.{Place}
+use Rattle.script_text.specs.declared.place.Place.TheVariants as places
+use Rattle.script_text.specs.declared.fault.Which.{Which}
+use Rattle.script_text.specs.Parts.{header_lines, header_text, IsHeader, section_lines, section_text, IsSection}
+use Rattle.script_text.specs.Limits.{KeepLimits, no_tally, tally_before, header_counts, counts_after}
+use Rattle.script_text.specs.Faults.{BeginsSection, FailsAt, SyntaxAt, LimitAt}
 
--- The text of lines, one after another.
-abbrev pub lines_text : List Line → List ℕ
-lines_text ls = flat_map spelled ls
+-- A header whose lines pass no limit.
+pub record IsFirstHeader (h : Header) : Type 0 where
+  pub header : IsHeader h
+  pub limits : KeepLimits no_tally (header_lines h)
 
--- ---- the header
-
-abbrev pub header_text : Header → List ℕ
-header_text h = spelled lines.Version
-
--- The sizes of the tables where a script gives no others.
-abbrev pub default_sizes : Sizes
-default_sizes = record {
-  rows = 5000;
-  regs = record { cookies = 10000; sets = 2000; owners = 2000; writes = 262144 };
-  apps = 10000;
-  ifaces = 1000;
-  calls = 1048576;
-}
-
--- What a header may be: it gives no sizes.
-abbrev pub IsHeader : Header → Type 0
-IsHeader h = h.sizes ≡ default_sizes
-
--- ---- a section
-
--- The lines of a lane.
-abbrev pub lane_lines : List (ℕ × HookLine) → List Line
-lane_lines hooks = lines.Lane ∷ map (λ (h : ℕ × HookLine). lines.Hook h.1) hooks
-
--- The lines of a section: its first one, and then those of its lanes.
-abbrev pub section_lines : Section → List Line
-section_lines s = lines.Section ∷ flat_map lane_lines s.lanes
-
-abbrev pub section_text : Section → List ℕ
-section_text s = lines_text (section_lines s)
-
--- The calls that a section's lanes make.
-abbrev pub section_calls : Section → ℕ
-section_calls s = sum_by length s.lanes
-
--- These items have the numbers from n on.
-abbrev pub AreNumbered : {A : Type 0} → ℕ → List (ℕ × A) → Type 0
-AreNumbered n [] = Unit {0}
-AreNumbered n (x ∷ xs) = (x.0 ≡ n) × AreNumbered (n + 1) xs
-
--- The first lane's line `lane` is line n, and all others follow.
-abbrev pub LanesAreNumbered : ℕ → List (List (ℕ × HookLine)) → Type 0
-LanesAreNumbered n [] = Unit {0}
-LanesAreNumbered n (lane ∷ lanes) = AreNumbered (n + 1) lane × LanesAreNumbered (n + 1 + length lane) lanes
-
--- What a section may be: its lines are built, each with its number, and it has at most one lane.
-pub record IsSection (s : Section) : Type 0 where
-  pub fits : AllByRecursion IsLine (section_lines s)
-  pub numbered : LanesAreNumbered (s.first + 1) s.lanes
-  pub one_lane : length s.lanes ≤ 1
-
--- ---- counts and limits
-
-abbrev pub header_counts : Header → Counts
-header_counts h = record { bytes = length (header_text h); lines = 1; sections = 0; hooks = 0; desk_lines = 0; collections = 0 }
-
--- The counts when a section has been read too.
-abbrev pub counts_after : Counts → Section → Counts
-counts_after before s = record {
-  bytes = before.bytes + length (section_text s);
-  lines = before.lines + length (section_lines s);
-  sections = before.sections + 1;
-  hooks = before.hooks + section_calls s;
-  desk_lines = before.desk_lines;
-  collections = before.collections;
-}
-
--- No limit of a script is passed.
-pub record IsWithinLimits (counts : Counts) : Type 0 where
-  pub bytes : counts.bytes ≤ 268435456
-  pub sections : counts.sections ≤ 4096
-  pub hooks : counts.hooks ≤ 1048576
-  pub desk_lines : counts.desk_lines ≤ 65536
-  pub collections : counts.collections ≤ 1024
-
--- A section that may stand behind what these counts are of: its lines are numbered on, and no limit is passed.
+-- A section that may stand behind what these counts are of: its lines are numbered on, and none passes a limit.
 pub record IsNextSection (before : Counts) (s : Section) : Type 0 where
   pub section : IsSection s
   pub first : s.first ≡ before.lines + 1
-  pub limits : IsWithinLimits (counts_after before s)
-
--- ---- the parts of a text
-
--- The bytes begin with a line `section`.
-abbrev pub BeginsSection : List ℕ → Type 0
-BeginsSection bytes = (more : List ℕ) × (bytes ≡ codes "section\n" ++ more)
-
--- Nothing is left, or a section begins.
-abbrev pub IsNextPart : List ℕ → Type 0
-IsNextPart rest = (rest ≡ []) ⊎ BeginsSection rest
-
--- The bytes are this text, up to where a section begins or they end.
-abbrev pub IsPart : List ℕ → List ℕ → Type 0
-IsPart text bytes = (rest : List ℕ) × (bytes ≡ text ++ rest) × IsNextPart rest
-
--- No header stands at the front of the bytes.
-abbrev pub NoHeaderStands : List ℕ → Type 0
-NoHeaderStands bytes = (h : Header) → IsHeader h → IsPart (header_text h) bytes → ⊥
-
--- No section stands there that may stand behind what these counts are of.
-abbrev pub NoSectionFollows : Counts → List ℕ → Type 0
-NoSectionFollows before bytes = (s : Section) → IsNextSection before s → IsPart (section_text s) bytes → ⊥
-
--- ---- the whole
+  pub limits : KeepLimits (tally_before before) (section_lines s)
 
 -- Sections one after another, behind what these counts are of.
 abbrev pub AreSections : Counts → List Section → Type 0
 AreSections before [] = Unit {0}
 AreSections before (s ∷ ss) = IsNextSection before s × AreSections (counts_after before s) ss
 
--- What a script may be: a header, and then at most one section.
+-- A script within all limits.
 pub record IsScript (header : Header) (sections : List Section) : Type 0 where
-  pub header_is : IsHeader header
+  pub header_is : IsFirstHeader header
   pub sections_are : AreSections (header_counts header) sections
-  pub one_section : length sections ≤ 1
 
 -- The one spelling of a script.
 abbrev pub script_text : Header → List Section → List ℕ
 script_text header sections = header_text header ++ flat_map section_text sections
+
+-- The counts behind sections.
+abbrev pub counts_behind : Counts → List Section → Counts
+counts_behind before [] = before
+counts_behind before (s ∷ ss) = counts_behind (counts_after before s) ss
+
+-- What a script counts for.
+abbrev pub script_counts : Header → List Section → Counts
+script_counts header sections = counts_behind (header_counts header) sections
+
+-- The text begins with a script, behind which another section begins.
+pub record GoesOn (text : List ℕ) (header : Header) (sections : List Section) (rest : List ℕ) : Type 0 where
+  pub script : IsScript header sections
+  pub read : text ≡ script_text header sections ++ rest
+  pub begins : BeginsSection rest
+
+-- The line that decides on a text: the first of the header that fails, or the first of a section behind a script.
+abbrev pub DecidesAt : List ℕ → ℕ → (Place → List (List ℕ) → Tally → List ℕ → Type 0) → Type 0
+DecidesAt text line Fails =
+    FailsAt places.Start no_tally text 1 line Fails
+    ⊎ ((header : Header) × (sections : List Section) × (rest : List ℕ) × GoesOn text header sections rest
+    × FailsAt places.Next (tally_before (script_counts header sections)) rest ((script_counts header sections).lines + 1) line Fails)
+
+-- The bytes of a text that are looked at: those up to the one that passes the limit on bytes.
+abbrev pub looked_at : List ℕ → List ℕ
+looked_at text = take 268435457 text
+
+-- With this line the text is no script any more.
+abbrev pub HasSyntaxFault : List ℕ → ℕ → Type 0
+HasSyntaxFault text line = DecidesAt (looked_at text) line SyntaxAt
+
+-- This line of the text passes a limit.
+abbrev pub HasLimitFault : List ℕ → Which → ℕ → Type 0
+HasLimitFault text which line = DecidesAt (looked_at text) line (LimitAt which)

@@ -1,8 +1,8 @@
-use Rattle.script_text.proofs.Sections.{section_same, script_same}
+use Rattle.script_text.proofs.Readings.{part_same, syntax_decides}
 use Rattle.script_text.proofs.laws.one_reading.Goals as goal
 
-pub returns-clause-sections : goal.returns-clause-sections
-returns-clause-sections c = λ s t rest other p q first next stop e. section_same s t rest other p q first next stop e
+pub returns-clause-once : goal.returns-clause-once
+returns-clause-once c = λ from ls ms bytes rest other a b. part_same from ls ms bytes rest other a b
 
-pub returns-clause-scripts : goal.returns-clause-scripts
-returns-clause-scripts c = λ header other ss ts p q e. script_same header other ss ts p q e
+pub returns-clause-decides : goal.returns-clause-decides
+returns-clause-decides c = λ from t bytes other first line ms f b. syntax_decides from t bytes other first line ms f b

@@ -1,22 +1,34 @@
-use Rattle.std.proofs.Common.{subst}
-use Rattle.std.specs.Prelude.{◌++◌, ◌∷◌, []}
+use Rattle.std.proofs.Common.{refl, subst}
+use Rattle.script_text.specs.declared.line.Line.{Line}
 use Rattle.script_text.specs.declared.line.Line.TheVariants as lines
-use Rattle.script_text.specs.Lines.{IsLine}
-use Rattle.script_text.specs.Drafts.{lane_part, InOrder, MayAdd}
-use Rattle.script_text.proofs.Sections.{no_second_lane, no_section, no_version, hook_pushed}
+use Rattle.script_text.specs.Parts.{cap_lines}
+use Rattle.script_text.specs.Drafts.{DraftTakes}
+use Rattle.script_text.proofs.PartLines.{ok_fact, draft_more, hook_lines, hook_numbers, command_lines, command_numbers, desk_begun_lines, desk_begun_numbers}
 use Rattle.script_text.proofs.draft.Draft.add.Goals as goal
 
-pub returns-in-Version-clause-syntax : goal.returns-in-Version-clause-syntax
-returns-in-Version-clause-syntax c = λ is may. no_version lines.Section (lane_part c.args.self.now.lane) (subst (λ l. MayAdd c.args.self.now l) c.in-Version.is may)
+pub returns-in-Some-clause-draft : goal.returns-in-Some-clause-draft
+returns-in-Some-clause-draft c =
+    let d = c.args.self.now in
+    let takes = subst (λ (l : Line). DraftTakes d c.args.number l) c.in-Hook.is c.requires.takes in
+    ok_fact _ _ _ c.push.ensures.ok (λ pushed.
+    draft_more d _ c.args.number (lines.Hook c.in-Hook.hook) c.requires.draft refl c.requires.next c.requires.draft.captured
+    (hook_lines (cap_lines d.caps d.capture.items) d.lanes d.lane d.desk c.in-Some.lane c.push.new.self c.args.number c.in-Hook.hook c.in-Some.is pushed takes.0)
+    (hook_numbers d.lanes d.lane d.desk c.in-Some.lane c.push.new.self c.args.number c.in-Hook.hook c.in-Some.is pushed takes.0)
+    )
 
-pub returns-in-Section-clause-syntax : goal.returns-in-Section-clause-syntax
-returns-in-Section-clause-syntax c = λ is may. no_section lines.Section (lane_part c.args.self.now.lane) [] (subst (λ l. MayAdd c.args.self.now l) c.in-Section.is may)
+pub returns-in-Some-desk-clause-draft : goal.returns-in-Some-desk-clause-draft
+returns-in-Some-desk-clause-draft c =
+    let d = c.args.self.now in
+    ok_fact _ _ _ c.push-in-Some-desk.ensures.ok (λ pushed.
+    draft_more d _ c.args.number (lines.Command c.in-Command.command) c.requires.draft refl c.requires.next c.requires.draft.captured
+    (command_lines (cap_lines d.caps d.capture.items) d.lanes d.lane d.desk c.in-Some-desk.desk c.push-in-Some-desk.new.self c.args.number c.in-Command.command c.in-Some-desk.is pushed)
+    (command_numbers d.lanes d.lane d.desk c.in-Some-desk.desk c.push-in-Some-desk.new.self c.args.number c.in-Command.command c.in-Some-desk.is pushed)
+    )
 
-pub returns-in-Some-clause-syntax : goal.returns-in-Some-clause-syntax
-returns-in-Some-clause-syntax c = λ is may.
-    let lane : MayAdd c.args.self.now lines.Lane = subst (λ l. MayAdd c.args.self.now l) c.in-Lane.is may in
-    no_second_lane c.in-Some.field-0 (subst (λ o. InOrder lines.Section (lane_part o ++ lines.Lane ∷ [])) c.in-Some.is lane)
-
-pub returns-in_ok-push-in-Some-lane-clause-draft : goal.returns-in_ok-push-in-Some-lane-clause-draft
-returns-in_ok-push-in-Some-lane-clause-draft c =
-    hook_pushed c.args.self.now.first c.args.number c.args.self.now.lane c.in-Some-lane.hooks c.push.new.self c.in-Hook.hook c.in-Some-lane.is c.in_ok-push-in-Some-lane.ensures.ok c.requires.draft (subst IsLine c.in-Hook.is c.requires.fits) c.requires.next
+pub returns-in-Desk-clause-draft : goal.returns-in-Desk-clause-draft
+returns-in-Desk-clause-draft c =
+    let d = c.args.self.now in
+    let takes = subst (λ (l : Line). DraftTakes d c.args.number l) c.in-Desk.is c.requires.takes in
+    draft_more d _ c.args.number lines.Desk c.requires.draft refl c.requires.next c.requires.draft.captured
+    (desk_begun_lines (cap_lines d.caps d.capture.items) d.lanes d.lane d.desk c.new.result takes c.new.ensures)
+    (desk_begun_numbers d.lanes d.lane d.desk c.new.result takes c.new.ensures)
