@@ -1,0 +1,9 @@
+pub mod Lists
+pub mod Divided
+pub mod Along
+pub mod Whole
+pub mod Standing
+pub mod Reading
+pub mod Lending
+pub mod Ranged
+pub mod Outcomes
