@@ -1,0 +1,16 @@
+pub mod Turns
+pub mod Tables
+pub mod Lines
+pub mod Valid
+pub mod Lanes
+pub mod Desk
+pub mod Sound
+pub mod Law
+pub mod Adding
+pub mod Holding
+pub mod Keeping
+pub mod Hooks
+pub mod Items
+pub mod Ending
+pub mod Walking
+pub mod Undoing
