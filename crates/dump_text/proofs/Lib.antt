@@ -1,3 +1,3 @@
-pub mod FoundLemmas
+pub mod PageLemmas
 pub mod TallyLemmas
-pub mod PieceLemmas
+pub mod TotalLemmas

@@ -1,3 +1,5 @@
 pub mod Dump
 pub mod Tallied
-pub mod Kept
+pub mod Pages
+pub mod Room
+pub mod Forms

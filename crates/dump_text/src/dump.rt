@@ -1,155 +1,125 @@
-ghost use Rattle.std.specs.Prelude.{◌≡◌, ◌++◌, ◌≤◌, IfOk, OnOk, OnErr, IsErrOf, string_bytes, not, codes, ◌∷◌, [], decimal};
-ghost use Rattle.std.specs.List.{flat_map};
+//! The dump, block by block.
+
+ghost use Rattle.std.specs.Prelude.{◌≡◌, ◌≤◌, ◌∷◌, ◌++◌, IfOk, OnOk, OnErr, IsErrOf};
+ghost use Rattle.std.specs.List.{All};
 ghost use Rattle.std.specs.Io.KnownBytes.{Appends};
-ghost use Rattle.acct_base.specs.Text.{line_text};
 ghost use Rattle.outside.specs.Outside.{Rose, AppendsPrefix};
-ghost use Rattle.dump_text.specs.Dump.{dump, head_text, writes_text, live_text, total_text, apps_text, calls_text, receipts_of, row_text, app_text, rows_text, is_zero};
-ghost use Rattle.dump_text.specs.Tallied.{tally_text};
+ghost use Rattle.shelf.specs.Phases.{kept_rows, added_rows};
+ghost use Rattle.shelf.specs.Shown.{shown};
+ghost use Rattle.dump_text.specs.Dump.{dump, receipts_of, writes_text};
+ghost use Rattle.dump_text.specs.Tallied.{tally, tally_text};
+ghost use Rattle.dump_text.specs.Pages.{Puts};
+ghost use Rattle.dump_text.specs.Room.{IsRoomOf, IsCovered, SumsFit, AppsCoverDeletions};
 
-use crate::fault::DumpFault;
-use crate::report::Report;
-use crate::tally::{Tally, report_tally};
-use acct_base::{Amount, Row};
-use outside::{Sink, write_all};
-use std::alloc::{AllocError, Global};
+use crate::fault::{DumpFault, WriteFailed};
+use crate::page::Page;
+use crate::phases::{put_live, put_phases, put_total};
+use crate::receipts::put_receipts;
+use crate::replies::put_replies;
+use crate::room::DumpRoom;
+use crate::tally::Tally;
+use crate::totals::{put_apps, put_ifaces};
+use acct_base::RowList;
+use outside::Sink;
+use shelf::Report;
+use std::alloc::Global;
 
-fn put_tally(out: &mut String, tally: Tally) -> Result<(), AllocError>
-    ensures { OnOk result (string_bytes out.new ≡ string_bytes out.old ++ tally_text tally) }
+fn put_tally<K: Sink>(page: &mut Page<'_, K>, counts: Tally)
+    ensures { Puts K.written K.faults page.old page.new (tally_text counts) }
 {
-    let Tally {
-        calls,
-        passed,
-        dropped,
-        full,
-    } = tally;
-    write!(
-        out,
-        "calls {calls} pass {passed} drop {dropped} full {full}\n"
-    )
+    page.put(b"calls");
+    page.number(counts.calls);
+    page.word(b"pass");
+    page.number(counts.passed);
+    page.word(b"drop");
+    page.number(counts.dropped);
+    page.word(b"full");
+    page.number(counts.full);
+    page.end_line();
 }
 
-fn put_row(out: &mut String, row: &Row) -> Result<(), AllocError>
-    ensures { OnOk result (string_bytes out.new ≡ string_bytes out.old ++ row_text row.now) }
+fn put_writes<K: Sink>(page: &mut Page<'_, K>, writes: usize, phase: u32)
+    ensures { Puts K.written K.faults page.old page.new (writes_text writes phase) }
 {
-    let label = row.label;
-    let amount = row.amount;
-    write!(
-        out,
-        "row {} {} {} {} {} {} {} {}\n",
-        label.uid,
-        label.tag,
-        label.set,
-        label.iface,
-        amount.rx_packets,
-        amount.rx_bytes,
-        amount.tx_packets,
-        amount.tx_bytes
-    )
+    page.put(b"writes");
+    page.number(writes);
+    page.word(b"phase");
+    page.number(phase);
+    page.end_line();
 }
 
-fn put_rows(out: &mut String, rows: &[Row]) -> Result<(), AllocError>
-    ensures { OnOk result (string_bytes out.new ≡ string_bytes out.old ++ rows_text rows.now) }
+fn put_dump<K: Sink>(
+    page: &mut Page<'_, K>,
+    report: &Report,
+    receipts: bool,
+    rows: &RowList,
+    counts: Tally,
+)
+    requires rows { rows.now ≡ added_rows (kept_rows report.now.shelf.phases report.now.live) }
+    requires counts { counts ≡ tally (receipts_of report.now.sections) }
+    requires covered { All (IsCovered report.now.shelf.phases) report.now.apps }
+    ensures { Puts K.written K.faults page.old page.new (dump (shown report.now) receipts) }
 {
-    for row in rows {
-        put_row(out, row)?;
-    }
-    Ok(())
+    page.put(b"netacct-dump 1\n");
+    put_tally(page, counts);
+    put_writes(page, report.journal.len(), report.live.phase);
+    put_replies(page, &report.sections);
+    put_receipts(page, receipts, &report.sections);
+    put_phases(page, &report.names, &report.shelf);
+    put_live(page, &report.names, &report.live);
+    put_total(page, &report.names, rows);
+    put_apps(page, &report.shelf, &report.apps);
+    put_ifaces(page, &report.names, &report.ifaces);
+    page.put(b"end\n");
 }
 
-fn is_zero(amount: &Amount) -> bool
-    ensures { result ≡ is_zero amount.now }
-{
-    amount.rx_packets == 0 && amount.rx_bytes == 0 && amount.tx_packets == 0 && amount.tx_bytes == 0
-}
-
-fn put_app(out: &mut String, app: &(u32, Amount)) -> Result<(), AllocError>
-    ensures { OnOk result (string_bytes out.new ≡ string_bytes out.old ++ app_text app.now) }
-{
-    let (uid, amount) = *app;
-    if is_zero(&amount) {
-        return Ok(());
-    }
-    write!(
-        out,
-        "app {uid} {} {} {} {}\n",
-        amount.rx_packets, amount.rx_bytes, amount.tx_packets, amount.tx_bytes
-    )
-}
-
-fn put_apps(out: &mut String, apps: &[(u32, Amount)]) -> Result<(), AllocError>
-    ensures { OnOk result (string_bytes out.new ≡ string_bytes out.old ++ flat_map app_text apps.now) }
-{
-    for app in apps {
-        put_app(out, app)?;
-    }
-    Ok(())
-}
-
-fn put_writes(out: &mut String, phase: u32) -> Result<(), AllocError>
-    ensures { OnOk result (string_bytes out.new ≡ string_bytes out.old ++ writes_text phase) }
-{
-    write!(out, "writes 0 phase {phase}\n")
-}
-
-// The lines above the rows.
-fn put_head(out: &mut String, report: &Report) -> Result<(), AllocError>
-    ensures { OnOk result (string_bytes out.new ≡ string_bytes out.old ++ head_text report.now) }
-{
-    let tally = report_tally(report)?;
-    out.push_str("netacct-dump 1\n")?;
-    put_tally(out, tally)?;
-    put_writes(out, report.live.phase)?;
-    out.push_str("replies\n")?;
-    Ok(())
-}
-
-fn put_live(out: &mut String, report: &Report) -> Result<(), AllocError>
-    ensures { OnOk result (string_bytes out.new ≡ string_bytes out.old ++ live_text report.now) }
-{
-    write!(out, "live {}\n", report.live.phase)?;
-    put_rows(out, report.live.rows.as_slice())
-}
-
-fn put_total(out: &mut String, report: &Report) -> Result<(), AllocError>
-    ensures { OnOk result (string_bytes out.new ≡ string_bytes out.old ++ total_text report.now) }
-{
-    out.push_str("total\n")?;
-    put_rows(out, report.live.rows.as_slice())
-}
-
-fn put_totals_of_apps(out: &mut String, report: &Report) -> Result<(), AllocError>
-    ensures { OnOk result (string_bytes out.new ≡ string_bytes out.old ++ apps_text report.now) }
-{
-    out.push_str("apps\n")?;
-    put_apps(out, report.apps.as_slice())
-}
-
-// The dump of a report.
-fn dump_of(alloc: Global, report: &Report) -> Result<String, AllocError>
-    ensures { IfOk result (λ text. string_bytes text ≡ dump report.now) }
-{
-    let mut out = String::new(alloc);
-    put_head(&mut out, report)?;
-    put_live(&mut out, report)?;
-    put_total(&mut out, report)?;
-    put_totals_of_apps(&mut out, report)?;
-    out.push_str("ifaces\n")?;
-    out.push_str("end\n")?;
-    Ok(out)
-}
-
-/// Writes the dump of a report.
+/// Writes the dump of a report through the small buffer of its room, with or without the lines of its
+/// receipts. It takes no memory.
 ///
-/// It makes the whole text first, so that a want of memory leaves the sink as it was. A write fault comes
-/// only where the sink failed, which then got a part from the dump's front.
-pub fn write_dump<K: Sink>(alloc: Global, sink: &mut K, report: &Report) -> Result<(), DumpFault>
-    ensures ok { OnOk result (Appends (K.written sink.old) (K.written sink.new) (dump report.now)) }
-    ensures prefix { IsErrOf result DumpFault.WriteFault → AppendsPrefix (K.written sink.old) (K.written sink.new) (dump report.now) }
+/// A failed write leaves a part from the dump's front in the sink. The room can be used again.
+pub fn stream_dump<K: Sink>(
+    sink: &mut K,
+    report: &Report,
+    receipts: bool,
+    room: &mut DumpRoom,
+) -> Result<(), WriteFailed>
+    requires room { IsRoomOf (shown report.now) room.old }
+    requires apps { AppsCoverDeletions (shown report.now) }
+    ensures ok { OnOk result (Appends (K.written sink.old) (K.written sink.new) (dump (shown report.now) receipts)) }
+    ensures prefix { OnErr result (AppendsPrefix (K.written sink.old) (K.written sink.new) (dump (shown report.now) receipts)) }
+    ensures cause { OnErr result (Rose (K.faults sink.old) (K.faults sink.new)) }
+    ensures count { K.faults sink.old ≤ K.faults sink.new }
+    ensures room_stays { room.new ≡ room.old }
+{
+    let DumpRoom {
+        buffer,
+        rows,
+        counts,
+    } = room;
+    let mut page = Page::new(sink, buffer);
+    put_dump(&mut page, report, receipts, rows, *counts);
+    page.finish()
+}
+
+/// Writes the dump of a report, with or without the lines of its receipts.
+///
+/// It takes its memory first, so that a want of memory leaves the sink as it was. A write fault comes only
+/// where the sink failed, which then got a part from the dump's front.
+pub fn write_dump<K: Sink>(
+    alloc: Global,
+    sink: &mut K,
+    report: &Report,
+    receipts: bool,
+) -> Result<(), DumpFault>
+    requires sums { SumsFit (shown report.now) }
+    requires apps { AppsCoverDeletions (shown report.now) }
+    ensures ok { OnOk result (Appends (K.written sink.old) (K.written sink.new) (dump (shown report.now) receipts)) }
+    ensures prefix { IsErrOf result DumpFault.WriteFault → AppendsPrefix (K.written sink.old) (K.written sink.new) (dump (shown report.now) receipts) }
     ensures cause { IsErrOf result DumpFault.WriteFault → Rose (K.faults sink.old) (K.faults sink.new) }
     ensures memory { IsErrOf result DumpFault.Memory → sink.new ≡ sink.old }
     ensures count { K.faults sink.old ≤ K.faults sink.new }
 {
-    let text = dump_of(alloc, report)?;
-    write_all(sink, text.as_bytes())?;
+    let mut room = DumpRoom::new(alloc, report)?;
+    stream_dump(sink, report, receipts, &mut room)?;
     Ok(())
 }

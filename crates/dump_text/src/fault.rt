@@ -1,8 +1,11 @@
 ghost use Rattle.std.specs.Prelude.{◌≡◌};
 ghost use Rattle.dump_text.specs.declared.fault.DumpFault.TheVariants.{Memory, WriteFault};
 
-use outside::Failed;
 use std::alloc::AllocError;
+
+/// A write of the sink failed; the sink got a part from the dump's front.
+#[derive(Clone, Copy, Debug, PartialEq, Eq)]
+pub struct WriteFailed;
 
 /// Why a dump was not written.
 #[derive(Clone, Copy, Debug, PartialEq, Eq)]
@@ -21,10 +24,10 @@ impl From<AllocError> for DumpFault {
     }
 }
 
-impl From<Failed> for DumpFault {
+impl From<WriteFailed> for DumpFault {
     ghost from_gives = { λ _ e. e ≡ WriteFault };
 
-    fn from(_: Failed) -> Self {
+    fn from(_: WriteFailed) -> Self {
         DumpFault::WriteFault
     }
 }

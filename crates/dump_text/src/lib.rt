@@ -1,20 +1,25 @@
-//! The report of a replay, and its dump: the text that `netacct replay` prints.
+//! The dump: the text that a replay prints of its report, line by line.
 //!
-//! `specs/Dump` is the format, line by line. A report keeps a million receipts side by side in few bytes
-//! each; contracts see them as the plain list of receipts.
+//! `specs/Dump` is the format. The text goes to the sink through one small buffer (`Page`), so that a dump
+//! of any size takes no memory once its first line is written.
 #![tactic(auto)]
 
+mod buffer;
 mod dump;
 mod fault;
-mod kept;
+mod page;
+mod phases;
 mod receipts;
-mod report;
+mod replies;
+mod room;
+mod rows;
 mod tally;
+mod totals;
 
-pub use dump::write_dump;
-pub use fault::DumpFault;
-pub use receipts::ReceiptList;
-pub use report::{LaneList, Report, SectionList, SectionOut};
+pub use dump::{stream_dump, write_dump};
+pub use fault::{DumpFault, WriteFailed};
+pub use receipts::receipt_line;
+pub use room::DumpRoom;
 
 #[cfg(test)]
 mod tests;

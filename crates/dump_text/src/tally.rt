@@ -5,14 +5,13 @@ ghost use Rattle.std.specs.List.{flat_map};
 ghost use Rattle.dump_text.specs.Dump.{full_mark, receipts_of, section_receipts};
 ghost use Rattle.dump_text.specs.Tallied.{line_tally, tally, added};
 
-use crate::receipts::ReceiptList;
-use crate::report::{Report, SectionOut};
 use acct_base::{LineReceipt, Mark, Receipt, Verdict};
+use shelf::{ReceiptList, Report, SectionOut};
 use std::alloc::AllocError;
 
 /// How many receipts there are, how many of them passed a packet and how many dropped one, and how many
 /// marks say that a table was full.
-#[derive(Clone, Copy, Debug)]
+#[derive(Clone, Copy, Debug, PartialEq, Eq)]
 pub struct Tally {
     pub calls: u64,
     pub passed: u64,
@@ -110,7 +109,7 @@ fn section_tally(section: &SectionOut) -> Result<Tally, AllocError>
 
 /// The tally of all receipts of a report.
 pub fn report_tally(report: &Report) -> Result<Tally, AllocError>
-    ensures { IfOk result (λ t. t ≡ tally (receipts_of report.now)) }
+    ensures { IfOk result (λ t. t ≡ tally (receipts_of report.now.sections)) }
 {
     let mut sum = NONE;
     for section in report.sections.as_slice() {
