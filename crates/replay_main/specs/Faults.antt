@@ -1,5 +1,7 @@
 -- The faults of a run.
 use Rattle.std.specs.Prelude.{◌≡◌, ℕ, Option, Some, None}
+use Rattle.captures.specs.declared.section.ResolveFault.{ResolveFault}
+use Rattle.captures.specs.declared.section.ResolveFault.TheVariants as resolving
 use Rattle.script_text.specs.declared.fault.ScriptFault.{ScriptFault}
 use Rattle.script_text.specs.declared.fault.ScriptFault.TheVariants as script
 use Rattle.replay_main.specs.declared.fault.Fault.{Fault}
@@ -11,35 +13,32 @@ status_of None = 0
 status_of (Some fault.Usage) = 2
 status_of (Some fault.ReadFault) = 3
 status_of (Some fault.WriteFault) = 4
+status_of (Some (fault.Syntax line)) = 5
+status_of (Some (fault.Limit which line)) = 6
+status_of (Some (fault.CaptureBad line place)) = 7
+status_of (Some (fault.NoPacket line)) = 8
 status_of (Some fault.Memory) = 9
-status_of (Some (fault.Unbuilt line)) = 10
-
--- A script was replayed: the dump was written, or writing it failed.
-abbrev pub HasReport : Option Fault → Type 0
-HasReport None = Unit {0}
-HasReport (Some fault.Usage) = ⊥
-HasReport (Some fault.ReadFault) = ⊥
-HasReport (Some fault.WriteFault) = Unit {0}
-HasReport (Some fault.Memory) = ⊥
-HasReport (Some (fault.Unbuilt line)) = ⊥
 
 -- The fault of a run whose script was not read.
 abbrev pub script_fault : ScriptFault → Fault
-script_fault (script.Unbuilt line) = fault.Unbuilt line
+script_fault (script.Syntax line) = fault.Syntax line
+script_fault (script.Limit which line) = fault.Limit which line
 script_fault script.Memory = fault.Memory
 
--- A fault that reading a script may have.
-abbrev pub IsReadingFault : Fault → Type 0
-IsReadingFault fault.Usage = ⊥
-IsReadingFault fault.ReadFault = Unit {0}
-IsReadingFault fault.WriteFault = ⊥
-IsReadingFault fault.Memory = Unit {0}
-IsReadingFault (fault.Unbuilt line) = line ≡ 1
+-- The fault of a run whose script has a section without all its calls.
+abbrev pub resolve_fault : ResolveFault → Fault
+resolve_fault (resolving.CaptureBad line place) = fault.CaptureBad line place
+resolve_fault (resolving.NoPacket line) = fault.NoPacket line
+resolve_fault resolving.Memory = fault.Memory
 
--- A fault that a text may have.
-abbrev pub IsParsingFault : Fault → Type 0
-IsParsingFault fault.Usage = ⊥
-IsParsingFault fault.ReadFault = ⊥
-IsParsingFault fault.WriteFault = ⊥
-IsParsingFault fault.Memory = Unit {0}
-IsParsingFault (fault.Unbuilt line) = line ≡ 1
+-- A fault that reading a source may have.
+abbrev pub IsReadingFault : Fault → Type 0
+IsReadingFault fault.ReadFault = Unit {0}
+IsReadingFault fault.Memory = Unit {0}
+IsReadingFault _ = ⊥
+
+-- A fault that reading and judging may have.
+abbrev pub IsJudgingFault : Fault → Type 0
+IsJudgingFault fault.Usage = ⊥
+IsJudgingFault fault.WriteFault = ⊥
+IsJudgingFault _ = Unit {0}

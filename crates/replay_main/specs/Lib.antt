@@ -1,5 +1,6 @@
-pub mod Honest
-pub mod Run
+pub mod Words
 pub mod Faults
-pub mod Postings
-pub mod Replayed
+pub mod Judged
+pub mod Reached
+pub mod Judgements
+pub mod Run

@@ -1,33 +1,85 @@
--- What a run is called with, reads and writes.
-use Rattle.std.specs.Prelude.{◌≡◌, ◌≢◌, ℕ, List, [], ◌∷◌, Option, Some, None, codes}
+-- What a run reads, gives and writes.
+use Rattle.std.specs.Prelude.{◌≡◌, ◌≢◌, ℕ, ◌≤◌, Bool, List, [], ◌∷◌, ◌++◌, length, codes, decimal, Option, None, Some}
+use Rattle.acct_base.specs.Text.{line_text}
+use Rattle.std.specs.Io.KnownBytes.{Appends, IsAtEnd}
+use Rattle.outside.specs.Outside.{AppendsPrefix}
 use Rattle.script_text.specs.declared.header.Header.{Header}
 use Rattle.script_text.specs.declared.section.Section.{Section}
-use Rattle.script_text.specs.Script.{IsScript, script_text}
-use Rattle.dump_text.specs.declared.report.Report.{Report}
-use Rattle.replay_main.specs.Honest.{IsHonest}
+use Rattle.script_text.specs.declared.limits.Counts.{Counts}
+use Rattle.script_text.specs.Script.{looked_at}
+use Rattle.captures.specs.Calls.{SectionCalls}
+use Rattle.captures.specs.Honest.{IsHonest}
+use Rattle.shelf.specs.declared.report.Report.{Report}
+use Rattle.shelf.specs.Shown.{shown}
+use Rattle.acct_plain.specs.Serial.{serial}
+use Rattle.dump_text.specs.Dump.{dump}
+use Rattle.replay_main.specs.declared.fault.Fault.{Fault}
+use Rattle.replay_main.specs.declared.fault.Fault.TheVariants as fault
+use Rattle.replay_main.specs.declared.words.Form.{Form}
+use Rattle.replay_main.specs.declared.words.Form.TheVariants.{Replay, Plain, Check}
+use Rattle.replay_main.specs.Judged.{IsJudged, Decides, IsScriptText, asked_of}
+use Rattle.replay_main.specs.Reached.{IsPlain, IsCheckedAs}
 
--- The words ask for a replay: `replay`, and no other word.
-abbrev pub IsReplay : List (List ℕ) → Type 0
-IsReplay words = words ≡ codes "replay" ∷ []
+-- The text is a script, and the report is honest to what it asks for.
+pub record IsReplayed (text : List ℕ) (report : Report) : Type 0 where
+  pub header : Header
+  pub sections : List Section
+  pub calls : List SectionCalls
+  pub judged : IsJudged text header sections calls
+  pub honest : IsHonest (asked_of header calls) (shown report)
 
--- The text is the spelling of no script.
-abbrev pub IsNoScript : List ℕ → Type 0
-IsNoScript text = (header : Header) (sections : List Section) → IsScript header sections → text ≢ script_text header sections
+-- The line that tells the counts of a script.
+abbrev pub check_text : Counts → List ℕ
+check_text c = line_text (
+    codes "check" ∷ codes "lines" ∷ decimal c.lines ∷ codes "sections" ∷ decimal c.sections ∷ codes "hooks" ∷ decimal c.hooks ∷ codes "desk"
+    ∷ decimal c.desk_lines ∷ []
+    )
 
--- The text is the spelling of a script to which the report is honest.
-abbrev pub IsReplayed : List ℕ → Report → Type 0
-IsReplayed text report = (header : Header) × (sections : List Section) × IsScript header sections × (text ≡ script_text header sections) × IsHonest header sections report
+-- What is true of a text is true of what a source had left, where it tells that.
+abbrev pub WasSo : (List ℕ → Type 0) → Option (List ℕ) → Type 0
+WasSo So None = Unit {0}
+WasSo So (Some text) = So text
 
--- The same of what a source had left, where it tells that.
-abbrev pub WasReplayed : Option (List ℕ) → Report → Type 0
-WasReplayed None report = Unit {0}
-WasReplayed (Some text) report = IsReplayed text report
+-- The source tells what it has left, and that is so.
+abbrev pub TellsSo : (List ℕ → Type 0) → Option (List ℕ) → Type 0
+TellsSo So None = ⊥
+TellsSo So (Some text) = So text
 
-abbrev pub WasNoScript : Option (List ℕ) → Type 0
-WasNoScript None = Unit {0}
-WasNoScript (Some text) = IsNoScript text
+-- A fault decides on what is looked at of a text. Of one that passes the limit on bytes only the bytes up to the one that passes it are.
+abbrev pub DecidesOn : Fault → List ℕ → Type 0
+DecidesOn f text = Decides (looked_at text) f
 
--- The source tells what it has left, and that is a script.
-abbrev pub TellsScript : Option (List ℕ) → Type 0
-TellsScript None = ⊥
-TellsScript (Some text) = (header : Header) × (sections : List Section) × IsScript header sections × (text ≡ script_text header sections)
+-- What is looked at of a text is a script.
+abbrev pub LooksLikeScript : List ℕ → Type 0
+LooksLikeScript text = IsScriptText (looked_at text)
+
+-- What a run of a form gives and has to write, from what its source had left: for `replay` an honest report and its dump; for `plain` the
+-- report of the replay on one thread, which is honest, and its dump; for `check` the counts of the script.
+abbrev pub Gives : Form → Option (List ℕ) → Option Report → List ℕ → Type 0
+Gives (Replay receipts) left (Some report) text = WasSo (λ script. IsReplayed script report) left × (text ≡ dump (shown report) receipts)
+Gives (Plain receipts) left (Some report) text = WasSo (λ script. IsPlain script report) left × (text ≡ dump (shown report) receipts)
+Gives Check left None text = (counts : Counts) × WasSo (λ script. IsCheckedAs script counts) left × (text ≡ check_text counts)
+Gives _ left _ text = ⊥
+
+-- A run did what its words ask for: it read its source to the end, and wrote all of its text, or a front of it.
+pub record HasRun (form : Form) (left now : Option (List ℕ)) (report : Option Report) (Writes : List ℕ → Type 0) : Type 0 where
+  pub text : List ℕ
+  pub end : IsAtEnd now
+  pub gives : Gives form left report text
+  pub writes : Writes text
+
+-- The fault is one of the text's.
+abbrev pub IsOfText : Fault → Type 0
+IsOfText (fault.Syntax line) = Unit {0}
+IsOfText (fault.Limit which line) = Unit {0}
+IsOfText (fault.CaptureBad line place) = Unit {0}
+IsOfText (fault.NoPacket line) = Unit {0}
+IsOfText _ = ⊥
+
+-- The bytes are what is looked at of what the source had left.
+abbrev pub AreLookedAt : List ℕ → Option (List ℕ) → Type 0
+AreLookedAt bytes left = WasSo (λ text. bytes ≡ looked_at text) left
+
+-- The bytes are all that the source had left.
+abbrev pub AreWhole : List ℕ → Option (List ℕ) → Type 0
+AreWhole bytes left = WasSo (λ text. text ≡ bytes) left

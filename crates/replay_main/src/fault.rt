@@ -1,15 +1,17 @@
-ghost use Rattle.std.specs.Prelude.{◌≡◌, Some};
-ghost use Rattle.script_text.specs.declared.fault.ScriptFault.TheVariants as script;
-ghost use Rattle.replay_main.specs.Faults.{status_of, script_fault};
-ghost use Rattle.replay_main.specs.declared.fault.Fault.TheVariants.{Memory, ReadFault};
-ghost use Rattle.outside.specs.declared.whole.ReadError.TheVariants as read;
+//! The faults of a run.
 
-use outside::ReadError;
-use script_text::ScriptFault;
+ghost use Rattle.std.specs.Prelude.{◌≡◌, Some};
+ghost use Rattle.captures.specs.declared.section.ResolveFault.TheVariants as resolving;
+ghost use Rattle.script_text.specs.declared.fault.ScriptFault.TheVariants as script;
+ghost use Rattle.replay_main.specs.Faults.{status_of, script_fault, resolve_fault};
+ghost use Rattle.replay_main.specs.declared.fault.Fault.TheVariants.{Memory};
+
+use captures::ResolveFault;
+use script_text::{ScriptFault, Which};
 use std::alloc::{AllocError, AllocFailed};
 use thiserror::Error;
 
-/// Why a run gave no dump. Its text is what the program prints on standard error.
+/// Why a run did not do what it was asked. Its text is what the program prints on standard error.
 #[derive(Clone, Copy, Debug, PartialEq, Eq, Error)]
 pub enum Fault {
     /// The words are none that the program takes.
@@ -21,12 +23,22 @@ pub enum Fault {
     /// A write to the sink failed.
     #[error("write fault")]
     WriteFault,
+    /// With this line the text is no script any more.
+    #[error("syntax fault in line {line}")]
+    Syntax { line: u64 },
+    /// This line passes a limit of scripts.
+    #[error("limit {which} passed in line {line}")]
+    Limit { which: Which, line: u64 },
+    /// A section's capture leaves its format at a place, in bytes from its begin. The line is the section's first
+    /// line of capture.
+    #[error("capture fault in line {line} at byte {place}")]
+    CaptureBad { line: u64, place: u32 },
+    /// The packet of this line is not in its section's capture, or is unusable.
+    #[error("no packet for line {line}")]
+    NoPacket { line: u64 },
     /// Memory was wanting.
     #[error("out of memory")]
     Memory,
-    /// The text is no script of the forms that are built. The line is always 1.
-    #[error("not built: line {line}")]
-    Unbuilt { line: u64 },
 }
 
 impl Fault {
@@ -38,8 +50,11 @@ impl Fault {
             Fault::Usage => 2,
             Fault::ReadFault => 3,
             Fault::WriteFault => 4,
+            Fault::Syntax { .. } => 5,
+            Fault::Limit { .. } => 6,
+            Fault::CaptureBad { .. } => 7,
+            Fault::NoPacket { .. } => 8,
             Fault::Memory => 9,
-            Fault::Unbuilt { .. } => 10,
         }
     }
 }
@@ -65,8 +80,21 @@ impl From<ScriptFault> for Fault {
 
     fn from(fault: ScriptFault) -> Self {
         match fault {
-            ScriptFault::Unbuilt { line } => Fault::Unbuilt { line },
+            ScriptFault::Syntax { line } => Fault::Syntax { line },
+            ScriptFault::Limit { which, line } => Fault::Limit { which, line },
             ScriptFault::Memory => Fault::Memory,
+        }
+    }
+}
+
+impl From<ResolveFault> for Fault {
+    ghost from_gives = { λ fault e. e ≡ resolve_fault fault };
+
+    fn from(fault: ResolveFault) -> Self {
+        match fault {
+            ResolveFault::CaptureBad { line, place } => Fault::CaptureBad { line, place },
+            ResolveFault::NoPacket { line } => Fault::NoPacket { line },
+            ResolveFault::Memory => Fault::Memory,
         }
     }
 }

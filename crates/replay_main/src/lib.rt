@@ -1,17 +1,17 @@
-//! The top call: a script is read from a source, replayed, and its dump written to a sink.
-//!
-//! `run` promises the whole: what a report has to say to a script is `specs/Honest`, and when a run may
-//! answer which fault is its contract. The replay itself is done on one thread over ordered maps.
+//! The top call: a script is read from a source, judged and replayed, and its dump or its counts are written to a sink.
 #![tactic(auto)]
 
+mod check;
 mod fault;
-mod ledger;
+mod laws;
 mod outcome;
+mod part;
 mod replay;
-mod script;
-
-pub use fault::Fault;
-pub use outcome::{Outcome, run};
-
 #[cfg(test)]
 mod tests;
+mod words;
+
+pub use fault::Fault;
+pub use laws::{one_judgement, serial_can_be_told};
+pub use outcome::{Outcome, run};
+pub use words::{Form, form_of};

@@ -1,39 +1,41 @@
-ghost use Rattle.std.specs.Prelude.{◌≡◌, ◌≢◌, ◌⊎◌, ◌↔◌, ◌≤◌, ℕ, List, [], ◌∷◌, Some, None, IsTrue, IsSome, IsSomeAnd, codes};
+//! The top calls: a script is read from a source, judged and replayed, and what was asked for is written to a sink.
+
+ghost use Rattle.std.specs.Prelude.{◌≡◌, ◌≢◌, ◌⊎◌, ◌↔◌, ◌≤◌, ℕ, length, Some, None, IfOk, IfErr, OnOk, IsErrOf, string_bytes};
 ghost use Rattle.std.specs.Io.KnownBytes.{Appends, IsAtEnd};
 ghost use Rattle.outside.specs.Outside.{Rose, AppendsPrefix};
-ghost use Rattle.dump_text.specs.Dump.{dump};
-ghost use Rattle.replay_main.specs.Run.{IsReplay, WasReplayed, WasNoScript, TellsScript};
-ghost use Rattle.replay_main.specs.Faults.{status_of, HasReport};
+ghost use Rattle.replay_main.specs.declared.fault.Fault.{Fault as Faulty};
+ghost use Rattle.replay_main.specs.declared.words.Form.{Form as Asks};
+ghost use Rattle.replay_main.specs.declared.words.Form.TheVariants.{Plain, Check};
+ghost use Rattle.replay_main.specs.Words.{words_of, AreNoForm};
+ghost use Rattle.replay_main.specs.Faults.{status_of, IsReadingFault, IsJudgingFault};
+ghost use Rattle.replay_main.specs.Run.{HasRun, Gives, WasSo, TellsSo, DecidesOn, LooksLikeScript, IsOfText, AreLookedAt, AreWhole, check_text};
 
+use crate::check::checked;
 use crate::fault::Fault;
-use crate::replay::report;
-use crate::script::{Script, script_of};
-use dump_text::{DumpFault, Report, write_dump};
-use outside::{ArgList, Sink, Source};
-use std::alloc::Global;
+use crate::replay::replayed;
+use crate::words::{Form, form_of};
+use dump_text::{DumpFault, write_dump};
+use outside::{ArgList, ReadError, Sink, Source, read_all, write_all};
+use script_text::Counts;
+use shelf::Report;
+use std::alloc::{AllocError, Global};
+use std::fmt::Write;
 
 /// What a run came to.
 #[derive(Drop)]
 pub struct Outcome {
-    /// 0 where the dump was written, else the fault's.
+    /// 0 where all was written, else the fault's.
     pub status: u8,
     pub fault: Option<Fault>,
     /// What was replayed: at status 0, and at a write fault.
     pub report: Option<Report>,
 }
 
-// Whether the words are `replay` alone.
-fn is_replay(words: &ArgList) -> bool
-    ensures { IsTrue result ↔ IsReplay words.now }
-{
-    match words.get(0) {
-        None => false,
-        Some(word) => words.len() == 1 && word == "replay",
-    }
-}
+/// As many bytes as show that a script has too many.
+const TOO_MANY: usize = 268_435_457;
 
-// What a run comes to that has no report.
-fn without_report(fault: Fault) -> Outcome
+/// What a run comes to that refuses what it was asked.
+fn refused(fault: Fault) -> Outcome
     ensures { result ≡ record { status = status_of (Some fault); fault = Some fault; report = None } }
 {
     Outcome {
@@ -43,64 +45,47 @@ fn without_report(fault: Fault) -> Outcome
     }
 }
 
-/// With the one word `replay`: reads a script from the source to its end, replays it, and writes its dump to
-/// the sink.
-///
-/// Want of memory is the one fault that needs no cause.
-pub fn run<S: Source, K: Sink>(
+/// Reads a source to its end, or up to the byte that passes the limit of scripts.
+fn text_of<S: Source>(alloc: Global, source: &mut S) -> Result<Vec<u8>, Fault>
+    ensures looked { IfOk result (λ text. AreLookedAt text.items (S.left source.old)) }
+    ensures end { IfOk result (λ text. length text.items ≤ 268435456 → IsAtEnd (S.left source.new)) }
+    ensures whole { IfOk result (λ text. length text.items ≤ 268435456 → AreWhole text.items (S.left source.old)) }
+    ensures read_fault { IsErrOf result Fault.ReadFault → Rose (S.faults source.old) (S.faults source.new) }
+    ensures faults { IfErr result IsReadingFault }
+{
+    match read_all(alloc, source, TOO_MANY) {
+        Ok(text) => Ok(text),
+        Err(ReadError::Failed) => Err(Fault::ReadFault),
+        Err(ReadError::Memory) => Err(Fault::Memory),
+    }
+}
+
+/// Judges and replays the script that a source has, and writes its dump.
+fn replay_to<S: Source, K: Sink>(
     alloc: Global,
-    words: &ArgList,
+    receipts: bool,
     source: &mut S,
     sink: &mut K,
 ) -> Outcome
-    // Without a fault the source was read to its end, what it told was a script, and the sink got
-    // the dump of a report that is honest to it.
-    ensures whole { result.fault ≡ None → IsAtEnd (S.left source.new) }
-    ensures honest { result.fault ≡ None → IsSomeAnd result.report (WasReplayed (S.left source.old)) }
-    ensures dump { result.fault ≡ None →
-        IsSomeAnd result.report (λ r. Appends (K.written sink.old) (K.written sink.new) (dump r)) }
-
-    // The causes of the faults.
-    ensures usage { (result.fault ≡ Some Fault.Usage) ↔ (IsReplay words.now → ⊥) }
-    ensures read_fault { result.fault ≡ Some Fault.ReadFault →
-        Rose (S.faults source.old) (S.faults source.new) }
-    ensures write_fault { result.fault ≡ Some Fault.WriteFault →
-        Rose (K.faults sink.old) (K.faults sink.new) }
-    ensures unbuilt { (line : ℕ) → result.fault ≡ Some (Fault.Unbuilt line) →
-        (line ≡ 1) × WasNoScript (S.left source.old) }
-
-    // Unless memory is wanting, a script is replayed where nothing failed.
-    ensures complete { IsReplay words.now → TellsScript (S.left source.old) →
-        (Rose (S.faults source.old) (S.faults source.new) → ⊥) →
-        (Rose (K.faults sink.old) (K.faults sink.new) → ⊥) →
-        (result.fault ≡ None) ⊎ (result.fault ≡ Some Fault.Memory) }
-
-    // After a write fault the same was read and replayed, and the sink got a front of the dump.
-    ensures whole_then { result.fault ≡ Some Fault.WriteFault → IsAtEnd (S.left source.new) }
-    ensures honest_then { result.fault ≡ Some Fault.WriteFault →
-        IsSomeAnd result.report (WasReplayed (S.left source.old)) }
-    ensures prefix { result.fault ≡ Some Fault.WriteFault →
-        IsSomeAnd result.report (λ r. AppendsPrefix (K.written sink.old) (K.written sink.new) (dump r)) }
-
-    // After every other fault there is no report, and the sink is as it was. Other words read nothing.
-    ensures untouched { result.report ≡ None → sink.new ≡ sink.old }
-    ensures reported { IsSome result.report ↔ HasReport result.fault }
-    ensures unread { result.fault ≡ Some Fault.Usage → source.new ≡ source.old }
-
+    ensures done { result.fault ≡ None → HasRun (Plain receipts) (S.left source.old) (S.left source.new) result.report (Appends (K.written sink.old) (K.written sink.new)) }
+    ensures cut_off { result.fault ≡ Some Fault.WriteFault → HasRun (Plain receipts) (S.left source.old) (S.left source.new) result.report (AppendsPrefix (K.written sink.old) (K.written sink.new)) }
+    ensures read_fault { result.fault ≡ Some Fault.ReadFault → Rose (S.faults source.old) (S.faults source.new) }
+    ensures write_fault { result.fault ≡ Some Fault.WriteFault → Rose (K.faults sink.old) (K.faults sink.new) }
+    ensures script { result.fault ≡ None → WasSo LooksLikeScript (S.left source.old) }
+    ensures usage { result.fault ≢ Some Fault.Usage }
+    ensures decides { (f : Faulty) → result.fault ≡ Some f → IsOfText f → WasSo (DecidesOn f) (S.left source.old) }
+    ensures refused { (f : Faulty) → result.fault ≡ Some f → f ≢ Fault.WriteFault → (result.report ≡ None) × (sink.new ≡ sink.old) }
     ensures status { result.status ≡ status_of result.fault }
 {
-    if !is_replay(words) {
-        return without_report(Fault::Usage);
-    }
-    let Script { header, sections } = match script_of(alloc, source) {
-        Ok(script) => script,
-        Err(fault) => return without_report(fault),
+    let text = match text_of(alloc, source) {
+        Ok(text) => text,
+        Err(fault) => return refused(fault),
     };
-    let report = match report(alloc, &header, sections) {
+    let report = match replayed(alloc, text.as_slice()) {
         Ok(report) => report,
-        Err(_) => return without_report(Fault::Memory),
+        Err(fault) => return refused(fault),
     };
-    match write_dump(alloc, sink, &report) {
+    match write_dump(alloc, sink, &report, receipts) {
         Ok(()) => Outcome {
             status: 0,
             fault: None,
@@ -111,6 +96,108 @@ pub fn run<S: Source, K: Sink>(
             fault: Some(Fault::WriteFault),
             report: Some(report),
         },
-        Err(DumpFault::Memory) => without_report(Fault::Memory),
+        Err(DumpFault::Memory) => refused(Fault::Memory),
+    }
+}
+
+/// The line that tells the counts of a script.
+fn check_line(alloc: Global, counts: &Counts) -> Result<String, AllocError>
+    ensures { IfOk result (λ line. string_bytes line ≡ check_text counts.now) }
+{
+    let mut line = String::new(alloc);
+    write!(
+        line,
+        "check lines {} sections {} hooks {} desk {}\n",
+        counts.lines, counts.sections, counts.hooks, counts.desk_lines
+    )?;
+    Ok(line)
+}
+
+/// Judges the script that a source has, and gives the line with its counts.
+fn line_of<S: Source>(alloc: Global, source: &mut S) -> Result<String, Fault>
+    ensures gives { IfOk result (λ line. Gives Check (S.left source.old) None (string_bytes line)) }
+    ensures end { OnOk result (IsAtEnd (S.left source.new)) }
+    ensures script { OnOk result (WasSo LooksLikeScript (S.left source.old)) }
+    ensures read_fault { IsErrOf result Fault.ReadFault → Rose (S.faults source.old) (S.faults source.new) }
+    ensures decides { (f : Faulty) → IsErrOf result f → IsOfText f → WasSo (DecidesOn f) (S.left source.old) }
+    ensures faults { IfErr result IsJudgingFault }
+{
+    let text = text_of(alloc, source)?;
+    let counts = checked(alloc, text.as_slice())?;
+    let line = check_line(alloc, &counts)?;
+    Ok(line)
+}
+
+/// Judges the script that a source has, and writes its counts.
+fn check_to<S: Source, K: Sink>(alloc: Global, source: &mut S, sink: &mut K) -> Outcome
+    ensures done { result.fault ≡ None → HasRun Check (S.left source.old) (S.left source.new) result.report (Appends (K.written sink.old) (K.written sink.new)) }
+    ensures cut_off { result.fault ≡ Some Fault.WriteFault → HasRun Check (S.left source.old) (S.left source.new) result.report (AppendsPrefix (K.written sink.old) (K.written sink.new)) }
+    ensures read_fault { result.fault ≡ Some Fault.ReadFault → Rose (S.faults source.old) (S.faults source.new) }
+    ensures write_fault { result.fault ≡ Some Fault.WriteFault → Rose (K.faults sink.old) (K.faults sink.new) }
+    ensures script { result.fault ≡ None → WasSo LooksLikeScript (S.left source.old) }
+    ensures usage { result.fault ≢ Some Fault.Usage }
+    ensures decides { (f : Faulty) → result.fault ≡ Some f → IsOfText f → WasSo (DecidesOn f) (S.left source.old) }
+    ensures refused { (f : Faulty) → result.fault ≡ Some f → f ≢ Fault.WriteFault → (result.report ≡ None) × (sink.new ≡ sink.old) }
+    ensures status { result.status ≡ status_of result.fault }
+{
+    let line = match line_of(alloc, source) {
+        Ok(line) => line,
+        Err(fault) => return refused(fault),
+    };
+    match write_all(sink, line.as_bytes()) {
+        Ok(()) => Outcome {
+            status: 0,
+            fault: None,
+            report: None,
+        },
+        Err(_) => Outcome {
+            status: Fault::WriteFault.status(),
+            fault: Some(Fault::WriteFault),
+            report: None,
+        },
+    }
+}
+
+/// Does what the words ask for: with `replay` or `plain` it reads a script from the source to its end, replays it and
+/// writes its dump to the sink; with `check` it judges the script and writes its counts.
+///
+/// The replay is made on one thread, section by section. Want of memory is the one fault that needs no cause.
+pub fn run<S: Source, K: Sink>(
+    alloc: Global,
+    words: &ArgList,
+    source: &mut S,
+    sink: &mut K,
+) -> Outcome
+    // Without a fault all was read, replayed and written; after a write fault a front was written.
+    ensures done { result.fault ≡ None → (form : Asks) × (words.now ≡ words_of form)
+        × HasRun form (S.left source.old) (S.left source.new) result.report (Appends (K.written sink.old) (K.written sink.new)) }
+    ensures cut_off { result.fault ≡ Some Fault.WriteFault → (form : Asks) × (words.now ≡ words_of form)
+        × HasRun form (S.left source.old) (S.left source.new) result.report (AppendsPrefix (K.written sink.old) (K.written sink.new)) }
+
+    // The causes of the faults.
+    ensures usage { (result.fault ≡ Some Fault.Usage) ↔ AreNoForm words.now }
+    ensures read_fault { result.fault ≡ Some Fault.ReadFault → Rose (S.faults source.old) (S.faults source.new) }
+    ensures write_fault { result.fault ≡ Some Fault.WriteFault → Rose (K.faults sink.old) (K.faults sink.new) }
+    ensures decides { (f : Faulty) → result.fault ≡ Some f → IsOfText f → WasSo (DecidesOn f) (S.left source.old) }
+
+    // Where nothing outside failed and memory was not wanting, a script is done, and another text has its fault.
+    ensures complete { (form : Asks) → words.now ≡ words_of form → TellsSo LooksLikeScript (S.left source.old) →
+        (Rose (S.faults source.old) (S.faults source.new) → ⊥) → (Rose (K.faults sink.old) (K.faults sink.new) → ⊥) →
+        (result.fault ≡ None) ⊎ (result.fault ≡ Some Fault.Memory) }
+    ensures exact { (form : Asks) (f : Faulty) → words.now ≡ words_of form → TellsSo (DecidesOn f) (S.left source.old) →
+        (Rose (S.faults source.old) (S.faults source.new) → ⊥) → (Rose (K.faults sink.old) (K.faults sink.new) → ⊥) →
+        (result.fault ≡ Some f) ⊎ (result.fault ≡ Some Fault.Memory) }
+
+    // After every other fault there is no report, and the sink is as it was. Other words read nothing.
+    ensures refused { (f : Faulty) → result.fault ≡ Some f → f ≢ Fault.WriteFault → (result.report ≡ None) × (sink.new ≡ sink.old) }
+    ensures unread { result.fault ≡ Some Fault.Usage → source.new ≡ source.old }
+
+    ensures status { result.status ≡ status_of result.fault }
+{
+    match form_of(words) {
+        None => refused(Fault::Usage),
+        Some(Form::Replay { receipts }) => replay_to(alloc, receipts, source, sink),
+        Some(Form::Plain { receipts }) => replay_to(alloc, receipts, source, sink),
+        Some(Form::Check) => check_to(alloc, source, sink),
     }
 }

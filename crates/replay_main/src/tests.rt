@@ -1,5 +1,6 @@
 use crate::{Fault, Outcome, run};
 use outside::{ArgList, MemSink, MemSource};
+use script_text::Which;
 use std::alloc::{AllocError, Global};
 use std::test::Fail;
 
@@ -92,28 +93,56 @@ fn a_failed_write_leaves_a_front_of_the_dump(rt: HostRuntime) -> Result<(), Fail
 }
 
 #[test]
-fn other_texts_and_words_are_refused(rt: HostRuntime) -> Result<(), Fail> {
-    let alloc = rt.alloc();
-    for script in [b"netacct 1\ndesk\n".as_slice(), b"netacct 1\nsection\nlane"] {
-        let (outcome, sink) = replay(alloc, script, 0, 0)?;
-        assert_eq!(rt;
-            (outcome.status, outcome.fault),
-            (10, Some(Fault::Unbuilt { line: 1 }))
-        );
+fn a_text_has_its_fault(rt: HostRuntime) -> Result<(), Fail> {
+    let cases: [(&[u8], u8, Fault); 4] = [
+        (b"netacct 1\nsection\nlane", 5, Fault::Syntax { line: 3 }),
+        (b"netacct 1\nlane\n", 5, Fault::Syntax { line: 2 }),
+        (
+            b"netacct 1\nsection\ncap 00\nlane\nrin 10050 0 2 0\n",
+            7,
+            Fault::CaptureBad { line: 3, place: 0 },
+        ),
+        (
+            b"netacct 1\nsection\nlane\nrin 10050 0 2 0\n",
+            8,
+            Fault::NoPacket { line: 4 },
+        ),
+    ];
+    for (script, status, fault) in cases {
+        let (outcome, sink) = replay(rt.alloc(), script, 0, 0)?;
+        assert_eq!(rt; (outcome.status, outcome.fault), (status, Some(fault)));
         assert_eq!(rt; sink.written(), b"".as_slice());
     }
-    let calls: [&[&str]; 4] = [&[], &["plain"], &["replay", "--receipts"], &["replays"]];
-    for call in calls {
+    Ok(())
+}
+
+#[test]
+fn words_say_what_is_done(rt: HostRuntime) -> Result<(), Fail> {
+    let alloc = rt.alloc();
+    let cases: [(&[&str], Option<Fault>, &[u8]); 5] = [
+        (&["plain"], None, ONE_PACKET_DUMP),
+        (
+            &["check"],
+            None,
+            b"check lines 4 sections 1 hooks 1 desk 0\n",
+        ),
+        (&[], Some(Fault::Usage), b""),
+        (&["check", "--receipts"], Some(Fault::Usage), b""),
+        (&["replays"], Some(Fault::Usage), b""),
+    ];
+    for (call, fault, written) in cases {
         let mut source = MemSource::new(alloc, ONE_PACKET, 10, &[])?;
         let mut sink = MemSink::new(alloc, 4_096, 16, &[])?;
         let outcome = run(alloc, &words(alloc, call)?, &mut source, &mut sink);
-        assert_eq!(rt; (outcome.status, outcome.fault), (2, Some(Fault::Usage)));
+        assert_eq!(rt; outcome.fault, fault);
+        assert_eq!(rt; sink.written(), written);
     }
     Ok(())
 }
 
 #[test]
 fn faults_print_their_texts(rt: HostRuntime) -> Result<(), Fail> {
+    let hooks = Which::Hooks;
     let texts = [
         (
             Fault::Usage,
@@ -121,8 +150,20 @@ fn faults_print_their_texts(rt: HostRuntime) -> Result<(), Fail> {
         ),
         (Fault::ReadFault, "read fault"),
         (Fault::WriteFault, "write fault"),
+        (Fault::Syntax { line: 4 }, "syntax fault in line 4"),
+        (
+            Fault::Limit {
+                which: hooks,
+                line: 9,
+            },
+            "limit hooks passed in line 9",
+        ),
+        (
+            Fault::CaptureBad { line: 9, place: 76 },
+            "capture fault in line 9 at byte 76",
+        ),
+        (Fault::NoPacket { line: 13 }, "no packet for line 13"),
         (Fault::Memory, "out of memory"),
-        (Fault::Unbuilt { line: 6 }, "not built: line 6"),
     ];
     for (fault, text) in texts {
         assert_eq!(rt; format!(in rt.alloc(); "{fault}")?.as_str(), text);

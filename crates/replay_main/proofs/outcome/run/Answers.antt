@@ -1,9 +1,41 @@
-use Rattle.std.proofs.Common.{Some, Err, ap, ◌∙◌, inr}
-use Rattle.replay_main.specs.declared.fault.Fault.{Fault}
-use Rattle.replay_main.specs.declared.outcome.Outcome.{Outcome}
-use Rattle.replay_main.proofs.Faults.{read_unless}
+use Rattle.std.proofs.Common.{◌≡◌, ap, Err, refl, sym, rules}
+use Rattle.replay_main.proofs.Outsides.{complete_run, exact_run, replay_run}
+use Rattle.replay_main.proofs.OneJudgement.{script_has_no_fault, one_fault}
+use Rattle.replay_main.specs.declared.words.Form.TheVariants.{Replay, Plain, Check}
 use Rattle.replay_main.proofs.outcome.run.Goals as goal
 
-pub returns-in-Err-clause-complete : goal.returns-in-Err-clause-complete
-returns-in-Err-clause-complete g c = λ words tells read wrote.
-    inr (ap (λ (o : Outcome). o.fault) c.without_report-in-Err.ensures ∙ ap (λ (f : Fault). Some f) (read_unless c.in-Err.fault _ _ c.in-Err.ensures.faults (λ is. c.in-Err.ensures.read_fault (ap Err is)) (λ line is. c.in-Err.ensures.unbuilt line (ap Err is)) tells read))
+pub returns-in-Some-Replay-clause-done : goal.returns-in-Some-Replay-clause-done
+returns-in-Some-Replay-clause-done g c = λ none. (Replay c.in-Some-Replay.receipts, search rules, replay_run c.in-Some-Replay.receipts _ _ _ _ (c.replay_to.ensures.done none))
+
+pub returns-in-Some-Replay-clause-cut_off : goal.returns-in-Some-Replay-clause-cut_off
+returns-in-Some-Replay-clause-cut_off g c = λ is. (Replay c.in-Some-Replay.receipts, search rules, replay_run c.in-Some-Replay.receipts _ _ _ _ (c.replay_to.ensures.cut_off is))
+
+pub returns-in-Some-Replay-clause-complete : goal.returns-in-Some-Replay-clause-complete
+returns-in-Some-Replay-clause-complete g c = λ form words tells unread unwritten.
+    let e = c.replay_to.ensures in
+    complete_run _ _ _ _ e.usage e.read_fault unread e.write_fault unwritten e.decides script_has_no_fault tells
+
+pub returns-in-Some-Replay-clause-exact : goal.returns-in-Some-Replay-clause-exact
+returns-in-Some-Replay-clause-exact g c = λ form f words tells unread unwritten.
+    let e = c.replay_to.ensures in
+    exact_run _ _ _ _ e.usage e.read_fault unread e.write_fault unwritten e.decides script_has_no_fault one_fault f tells e.script
+
+pub returns-in-Some-Plain-clause-complete : goal.returns-in-Some-Plain-clause-complete
+returns-in-Some-Plain-clause-complete g c = λ form words tells unread unwritten.
+    let e = c.replay_to-in-Some-Plain.ensures in
+    complete_run _ _ _ _ e.usage e.read_fault unread e.write_fault unwritten e.decides script_has_no_fault tells
+
+pub returns-in-Some-Plain-clause-exact : goal.returns-in-Some-Plain-clause-exact
+returns-in-Some-Plain-clause-exact g c = λ form f words tells unread unwritten.
+    let e = c.replay_to-in-Some-Plain.ensures in
+    exact_run _ _ _ _ e.usage e.read_fault unread e.write_fault unwritten e.decides script_has_no_fault one_fault f tells e.script
+
+pub returns-in-Some-Check-clause-complete : goal.returns-in-Some-Check-clause-complete
+returns-in-Some-Check-clause-complete g c = λ form words tells unread unwritten.
+    let e = c.check_to.ensures in
+    complete_run _ _ _ _ e.usage e.read_fault unread e.write_fault unwritten e.decides script_has_no_fault tells
+
+pub returns-in-Some-Check-clause-exact : goal.returns-in-Some-Check-clause-exact
+returns-in-Some-Check-clause-exact g c = λ form f words tells unread unwritten.
+    let e = c.check_to.ensures in
+    exact_run _ _ _ _ e.usage e.read_fault unread e.write_fault unwritten e.decides script_has_no_fault one_fault f tells e.script

@@ -1,0 +1,105 @@
+-- What was read of a source, and what is true of it.
+use Rattle.std.proofs.Common.{◌≡◌, ◌⊎◌, ℕ, ◌≤◌, List, [], ◌∷◌, ◌++◌, length, take, refl, sym, ap, subst, ◌∙◌, arith, inl, inr, Option, Some, None, append-nil, Bool, ◌≢◌}
+use Rattle.std.proofs.lemmas.List.{take_all}
+use Rattle.std.specs.Io.KnownBytes.{Consumes, IsAtEnd}
+use Rattle.script_text.specs.declared.limits.Counts.{Counts}
+use Rattle.shelf.specs.declared.report.Report.{Report}
+use Rattle.replay_main.specs.declared.fault.Fault.{Fault}
+use Rattle.replay_main.specs.declared.fault.Fault.TheVariants as fault
+use Rattle.replay_main.specs.declared.words.Form.TheVariants.{Replay, Plain}
+use Rattle.replay_main.specs.Judged.{IsScriptText, Decides}
+use Rattle.replay_main.specs.Judgements.{ScriptHasNoFault, OneFault}
+use Rattle.replay_main.specs.Reached.{IsPlain, IsCheckedAs}
+use Rattle.replay_main.specs.Run.{WasSo, TellsSo, AreLookedAt, AreWhole, LooksLikeScript, DecidesOn, IsOfText, IsReplayed, Gives, HasRun}
+
+take_front : (front rest : List ℕ) → take (length front) (front ++ rest) ≡ front
+take_front [] rest = refl
+take_front (x ∷ xs) rest = ap (λ (l : List ℕ). x ∷ l) (take_front xs rest)
+
+pub are_looked_at : (left now : Option (List ℕ)) (bytes : List ℕ) (n : ℕ) → length bytes ≡ n → Consumes left now bytes → n ≤ 268435457 → (n ≡ 268435457) ⊎ IsAtEnd now → AreLookedAt bytes left
+are_looked_at None now bytes n long read few whole = tt
+are_looked_at (Some text) None bytes n long read few whole = absurd read
+are_looked_at (Some text) (Some rest) bytes n long read few (inl full) = sym (take_front bytes rest) ∙ ap (λ (n : ℕ). take n (bytes ++ rest)) (long ∙ full) ∙ ap (take 268435457) (sym read)
+are_looked_at (Some text) (Some rest) bytes n long read few (inr end) =
+    sym (take_all 268435457 bytes (omega (arith, long, few))) ∙ ap (take 268435457) (sym (read ∙ ap (λ (r : List ℕ). bytes ++ r) end ∙ append-nil bytes))
+
+-- what is true of the whole that was read
+pub carried : (So : List ℕ → Type 0) (left : Option (List ℕ)) (bytes : List ℕ) → AreWhole bytes left → So bytes → WasSo So left
+carried So None bytes whole so = tt
+carried So (Some text) bytes whole so = subst So (sym whole) so
+
+was_map : (P Q : List ℕ → Type 0) (left : Option (List ℕ)) → ((text : List ℕ) → P text → Q text) → WasSo P left → WasSo Q left
+was_map P Q None f so = tt
+was_map P Q (Some text) f so = f text so
+
+-- what was looked at is a script
+pub looked_script : (left : Option (List ℕ)) (bytes : List ℕ) → AreLookedAt bytes left → IsScriptText bytes → WasSo LooksLikeScript left
+looked_script None bytes looked is = tt
+looked_script (Some text) bytes looked is = subst IsScriptText looked is
+
+pub plain_script : (text : List ℕ) (report : Report) → IsPlain text report → IsScriptText text
+plain_script text report is = (is.header, is.sections, is.calls, is.judged)
+
+pub checked_script : (text : List ℕ) (counts : Counts) → IsCheckedAs text counts → IsScriptText text
+checked_script text counts is = (is.header, is.sections, is.calls, is.judged)
+
+-- a replay on one thread is a replay
+gives_replayed : (receipts : Bool) (left : Option (List ℕ)) (report : Option Report) (text : List ℕ) → Gives (Plain receipts) left report text → Gives (Replay receipts) left report text
+gives_replayed receipts left None text h = absurd h
+gives_replayed receipts left (Some report) text h = (
+  was_map (λ script. IsPlain script report) (λ script. IsReplayed script report) left (λ script is. record { header = is.header; sections = is.sections; calls = is.calls; judged = is.judged; honest = is.honest }) h.0,
+  h.1,
+)
+
+pub replay_run : (receipts : Bool) (left now : Option (List ℕ)) (report : Option Report) (Writes : List ℕ → Type 0) → HasRun (Plain receipts) left now report Writes → HasRun (Replay receipts) left now report Writes
+replay_run receipts left now report Writes h = record { text = h.text; end = h.end; gives = gives_replayed receipts left report h.text h.gives; writes = h.writes }
+
+-- ---- which fault comes
+
+apart : ScriptHasNoFault → (f : Fault) (left : Option (List ℕ)) → TellsSo LooksLikeScript left → WasSo (DecidesOn f) left → ⊥
+apart law f None tells was = tells
+apart law f (Some text) tells was = law _ f tells was
+
+apart_too : ScriptHasNoFault → (f : Fault) (left : Option (List ℕ)) → WasSo LooksLikeScript left → TellsSo (DecidesOn f) left → ⊥
+apart_too law f None was tells = tells
+apart_too law f (Some text) was tells = law _ f was tells
+
+same_fault : OneFault → (f g : Fault) (left : Option (List ℕ)) → WasSo (DecidesOn f) left → TellsSo (DecidesOn g) left → f ≡ g
+same_fault law f g None was tells = absurd tells
+same_fault law f g (Some text) was tells = law _ f g was tells
+
+-- a fault that is none of memory has its cause
+pub caused : (Read Write : Type 0) (P : Fault → Type 0) (f : Fault) (whole : Option Fault) → whole ≡ Some f → whole ≢ Some fault.Usage → (whole ≡ Some fault.ReadFault → Read) → (Read → ⊥)
+    → (whole ≡ Some fault.WriteFault → Write) → (Write → ⊥) → ((f : Fault) → whole ≡ Some f → IsOfText f → P f) → (f ≡ fault.Memory) ⊎ P f
+caused Read Write P fault.Usage whole is usage read unread write unwritten text = absurd (usage is)
+caused Read Write P fault.ReadFault whole is usage read unread write unwritten text = absurd (unread (read is))
+caused Read Write P fault.WriteFault whole is usage read unread write unwritten text = absurd (unwritten (write is))
+caused Read Write P (fault.Syntax line) whole is usage read unread write unwritten text = inr (text _ is tt)
+caused Read Write P (fault.Limit which line) whole is usage read unread write unwritten text = inr (text _ is tt)
+caused Read Write P (fault.CaptureBad line place) whole is usage read unread write unwritten text = inr (text _ is tt)
+caused Read Write P (fault.NoPacket line) whole is usage read unread write unwritten text = inr (text _ is tt)
+caused Read Write P fault.Memory whole is usage read unread write unwritten text = inl refl
+
+module _ (Read Write : Type 0) (left : Option (List ℕ)) (whole : Option Fault) (usage : whole ≢ Some fault.Usage) (read : whole ≡ Some fault.ReadFault → Read) (unread : Read → ⊥)
+    (write : whole ≡ Some fault.WriteFault → Write) (unwritten : Write → ⊥) (text : (f : Fault) → whole ≡ Some f → IsOfText f → WasSo (DecidesOn f) left) where
+  complete_by : ScriptHasNoFault → TellsSo LooksLikeScript left → (o : Option Fault) → whole ≡ o → (o ≡ None) ⊎ (o ≡ Some fault.Memory)
+  complete_by law tells None is = inl refl
+  complete_by law tells (Some f) is = pick (caused Read Write (λ f. WasSo (DecidesOn f) left) f whole is usage read unread write unwritten text)
+    where
+      pick : (f ≡ fault.Memory) ⊎ WasSo (DecidesOn f) left → (Some f ≡ None) ⊎ (Some f ≡ Some fault.Memory)
+      pick (inl memory) = inr (ap (λ (g : Fault). Some g) memory)
+      pick (inr was) = absurd (apart law f left tells was)
+
+  pub complete_run : ScriptHasNoFault → TellsSo LooksLikeScript left → (whole ≡ None) ⊎ (whole ≡ Some fault.Memory)
+  complete_run law tells = complete_by law tells whole refl
+
+  exact_by : ScriptHasNoFault → OneFault → (g : Fault) → TellsSo (DecidesOn g) left → (whole ≡ None → WasSo LooksLikeScript left) → (o : Option Fault) → whole ≡ o → (o ≡ Some g) ⊎ (o ≡ Some fault.Memory)
+  exact_by law one g tells script None is = absurd (apart_too law g left (script is) tells)
+  exact_by law one g tells script (Some f) is = pick (caused Read Write (λ f. WasSo (DecidesOn f) left) f whole is usage read unread write unwritten text)
+    where
+      pick : (f ≡ fault.Memory) ⊎ WasSo (DecidesOn f) left → (Some f ≡ Some g) ⊎ (Some f ≡ Some fault.Memory)
+      pick (inl memory) = inr (ap (λ (g : Fault). Some g) memory)
+      pick (inr was) = inl (ap (λ (g : Fault). Some g) (same_fault one f g left was tells))
+
+  pub exact_run : ScriptHasNoFault → OneFault → (g : Fault) → TellsSo (DecidesOn g) left → (whole ≡ None → WasSo LooksLikeScript left) → (whole ≡ Some g) ⊎ (whole ≡ Some fault.Memory)
+  exact_run law one g tells script = exact_by law one g tells script whole refl

@@ -1,0 +1,27 @@
+//! Laws of the definitions. Each is the contract of a function with nothing to do.
+
+ghost use Rattle.std.specs.Prelude.{◌≤◌};
+ghost use Rattle.captures.specs.Calls.{Asked, IsAskedInRange};
+ghost use Rattle.acct_plain.specs.Serial.{serial};
+ghost use Rattle.acct_plain.specs.Walks.{calls_of_sections};
+ghost use Rattle.dump_text.specs.Room.{SumsFit, AppsCoverDeletions};
+ghost use Rattle.replay_main.specs.Judgements.{ScriptHasNoFault, OneFault, ScriptIsReadOnce};
+
+use acct_base::length_is_charged;
+
+/// A text has one judgement. No fault decides on a script, one fault at most decides on any other text, and a script has
+/// one header, one list of sections and one list of their calls.
+pub fn one_judgement()
+    ensures script { ScriptHasNoFault }
+    ensures fault { OneFault }
+    ensures reading { ScriptIsReadOnce }
+{}
+
+/// Where calls and commands are in their ranges, the walk's deletions record of no app more than its total, and the
+/// sums of its rows fit in words of 64 bits if there are at most 1,048,576 calls.
+pub fn serial_can_be_told()
+    ensures fits { (asked : Asked) → IsAskedInRange asked → calls_of_sections asked.sections ≤ 1048576 → SumsFit (serial asked) }
+    ensures covers { (asked : Asked) → IsAskedInRange asked → AppsCoverDeletions (serial asked) }
+{
+    length_is_charged();
+}
