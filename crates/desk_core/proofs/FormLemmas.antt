@@ -114,11 +114,11 @@ iface_in-small : (o : Option ℕ) (uid : ℕ) → IfSome o (IsValueOf (Owner uid
 iface_in-small None uid h = omega arith
 iface_in-small (Some v) uid h = h
 
-rule_in-small : (o : Option ℕ) → rule_in o < 2 ^ 32
+pub rule_in-small : (o : Option ℕ) → rule_in o < 2 ^ 32
 rule_in-small None = omega arith
 rule_in-small (Some v) = omega arith
 
-iface_back : (i r : ℕ) → r < 2 ^ 32 → word_iface (owner_word i r) ≡ i
+pub iface_back : (i r : ℕ) → r < 2 ^ 32 → word_iface (owner_word i r) ≡ i
 iface_back i r h = omega (arith, h)
 
 with_formed : (uid b iface : ℕ) (o : Option ℕ) → b < 2 ^ 32 → iface ≤ 16777215 → IfSome o (IsValueOf (Owner uid)) → IfSome (entry_with b iface o) (IsValueOf (Owner uid))
@@ -137,7 +137,7 @@ without_formed uid b o old =
     (elim (b == iface_bit) as (λ (t : Bool). (if t then 0 else iface_in o) ≤ 16777215) [ true ↦ omega arith | false ↦ iface_in-small o uid old ]) in
     elim (r == 0) as (λ (t : Bool). IfSome (if t then None else Some (owner_word i r)) (IsValueOf (Owner uid))) [ true ↦ tt | false ↦ fits ]
 
-bit_small : (b : Bit) → bit_value b < 2 ^ 32
+pub bit_small : (b : Bit) → bit_value b < 2 ^ 32
 bit_small bit.Happy = omega arith
 bit_small bit.Penalty = omega arith
 bit_small bit.Dozable = omega arith
