@@ -14,13 +14,15 @@ use Rattle.acct_base.specs.Journal.{same_key, current}
 use Rattle.acct_base.specs.Ordered.{insert_once}
 use Rattle.acct_base.proofs.JournalLemmas.{same_key-self}
 use Rattle.acct_base.specs.Registers.{cookie_of, set_uid_of, owner_uid_of, keys_written, KeepsLimits}
+use Rattle.acct_base.specs.Landings.{same_number}
+use Rattle.acct_base.proofs.Keys.{nat_agree, ascending_sorted, inserted_sorted}
 use Rattle.desk_core.specs.declared.command.Command.{Command}
 use Rattle.desk_core.specs.declared.command.Reply.{Reply}
 use Rattle.desk_core.specs.declared.command.Reply.TheVariants.{Done}
 use Rattle.desk_core.specs.Commands.{is_done, effect, reply, after_command, is_listed, clear, clear_set, has_entry, entry_matches, entry_has, entry_with, entry_without, cookies_tagged, unlisted, take_bit, put_bit, deletion, replacement}
 use Rattle.desk_core.specs.Laws.{deletes}
 use Rattle.desk_core.specs.Registers.{seen_now}
-use Rattle.desk_core.proofs.KeyLists.{Ascends, ascends-ascending, ascends-insert_once, length-insert_once}
+use Rattle.desk_core.proofs.KeyLists.{Ascends, length-insert_once}
 use Rattle.desk_core.proofs.LatestLemmas.{IsMap, cookies_map, sets_map, owners_map, listed-keys_written, keys_written-append, seen_now-push, eqb-swap}
 use Rattle.desk_core.proofs.LimitLemmas.{seen-valued, tagged-valued, has-valued}
 use Rattle.desk_core.proofs.WalkLemmas.{listed-filter}
@@ -198,7 +200,7 @@ module _ (journal : List Write) where
 module _ (mk : ℕ → Key) (which : Write → Option ℕ) (m : IsMap mk which) where
   grows : (xs ys : List ℕ) → Ascends xs → length xs ≤ length (fold (insert_once nat_cmp) xs ys)
   grows xs [] s = omega arith
-  grows xs (y ∷ ys) s = by (is_listed xs y) (length-insert_once xs y s) (grows (insert_once nat_cmp xs y) ys (ascends-insert_once xs y s))
+  grows xs (y ∷ ys) s = by (is_listed xs y) (length-insert_once xs y s) (grows (insert_once nat_cmp xs y) ys (inserted_sorted nat_cmp same_number nat_agree xs y s))
     where
       by : (b : Bool) → length (insert_once nat_cmp xs y) ≡ (if b then length xs else length xs + 1)
           → length (insert_once nat_cmp xs y) ≤ length (fold (insert_once nat_cmp) (insert_once nat_cmp xs y) ys)
@@ -210,7 +212,7 @@ module _ (mk : ℕ → Key) (which : Write → Option ℕ) (m : IsMap mk which) 
   pub fewer_keys : (xs ys : List Write) → length (keys_written which xs) ≤ length (keys_written which (xs ++ ys))
   fewer_keys xs ys =
       subst (λ (ks : List ℕ). length (keys_written which xs) ≤ length ks) (sym (keys_written-append mk which m xs ys))
-      (grows (keys_written which xs) (filter_map which ys) (ascends-ascending (filter_map which xs)))
+      (grows (keys_written which xs) (filter_map which ys) (ascending_sorted nat_cmp same_number nat_agree (filter_map which xs)))
 
 -- a first part of a journal that passes no limit passes none
 pub within-front : (limits : RegSizes) (xs ys : List Write) → KeepsLimits limits (xs ++ ys) → KeepsLimits limits xs
