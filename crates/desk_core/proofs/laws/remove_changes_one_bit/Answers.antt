@@ -6,7 +6,7 @@ use Rattle.acct_base.specs.Rules.{iface_bit}
 use Rattle.desk_core.specs.declared.command.Bit.TheVariants as bit
 use Rattle.desk_core.specs.declared.command.Command.TheVariants.{Remove}
 use Rattle.desk_core.specs.Commands.{bit_value, entry_has, iface_in, take_bit}
-use Rattle.desk_core.specs.Laws.{KeepsOtherBits, KeepsIface, ChangeOneBit}
+use Rattle.desk_core.specs.Laws.{KeepsOtherBits, KeepsIface, ChangesBitAlone}
 use Rattle.desk_core.proofs.EntryLemmas.{has-without, others-without, iface-without, iface-gone, not_iface}
 use Rattle.desk_core.proofs.ValueLemmas.{after-done, after-either, written_own, written_other}
 use Rattle.desk_core.proofs.laws.remove_changes_one_bit.Goals as goal
@@ -32,7 +32,7 @@ returns-clause-iface c = λ journal privileged limits uid. (
 
 pub returns-clause-others : goal.returns-clause-others
 returns-clause-others c = λ journal privileged limits uid b.
-    after-either (λ (j : List Write). ChangeOneBit journal j uid (bit_value b)) journal privileged limits (Remove uid b)
+    after-either (λ (j : List Write). ChangesBitAlone journal j uid (bit_value b)) journal privileged limits (Remove uid b)
     (record { bits = λ place within other. refl; keys = λ k other. refl })
     (record {
       bits = subst (KeepsOtherBits (bit_value b) (current journal (key.Owner uid))) (sym (written_own journal (take_bit journal (bit_value b) uid)))
