@@ -19,14 +19,13 @@ use Rattle.acct_base.specs.declared.packet.Dir.{Dir}
 use Rattle.acct_base.specs.declared.packet.Dir.TheVariants.{Ingress, Egress}
 use Rattle.acct_base.specs.Amounts.{plus, zero_amount, total_by, amount_if, amount_in, amount_at, labels_of, label_cmp, same_label, IsValidLabel, is_valid_label}
 use Rattle.acct_base.specs.Receipts.{charge_amount}
-use Rattle.acct_base.specs.Sums.{lands_at, folded, has_label, HoldsCharges, FullWasMet}
+use Rattle.acct_base.specs.Sums.{lands_at, folded, has_label, HoldsCharges, FullWasMet, HoldsPhase}
 use Rattle.grace_core.specs.declared.view.HookView.{HookView}
 use Rattle.grace_core.specs.declared.state.State.{State}
 use Rattle.grace_core.specs.Machine.{IsValidJob, direction}
 use Rattle.grace_core.specs.Sums.{Measure, landed, missed, packets, bytes, measure, tally, charges_of}
 use Rattle.grace_core.specs.Rows.{row_is, row_packets, row_bytes, packets_in, bytes_in, Folds}
 use Rattle.grace_core.specs.Good.{side, ViewIsGood, EachView, SnapshotIsGood, IsGood}
-use Rattle.grace_core.specs.Phases.{IsSnapshotOf}
 use Rattle.grace_core.proofs.Items.{at_or, at_below, sum_part, sum_none, each_append, some-ne-none}
 use Rattle.acct_base.proofs.Keys.{label_same, label_self, label_total}
 use Rattle.grace_core.proofs.RowSteps.{yes_or_no}
@@ -216,5 +215,5 @@ module _ (s : State) (g : IsGood s) (n : ℕ) (rows : List Row) (good : Snapshot
   pub full_was_met : FullWasMet s.rows (charges_of s.hooks) n rows
   full_was_met = by_recursion (λ (c : Charge). (c.phase ≡ n) → c.landed ≡ false → (length rows ≡ s.rows) × (has_label rows c.job.label ≡ false)) cs its_full
 
-pub snapshots_hold : (s : State) → IsGood s → (n : ℕ) (p : Snapshot) → slice_get s.snapshots n ≡ Some p → IsSnapshotOf s.rows (charges_of s.hooks) n p
+pub snapshots_hold : (s : State) → IsGood s → (n : ℕ) (p : Snapshot) → slice_get s.snapshots n ≡ Some p → HoldsPhase s.rows (charges_of s.hooks) n p
 snapshots_hold s g n p e = let k = g.snaps n p e in record { phase = k.0; ascend = k.1.ascend; holds = holds_charges s g n p.rows k.1; full = full_was_met s g n p.rows k.1 }

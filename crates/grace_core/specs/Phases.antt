@@ -1,9 +1,5 @@
 -- What a good state says of phases, sides and snapshots.
 use Rattle.std.specs.Prelude.{◌≡◌, ◌≢◌, ◌⊎◌, ℕ, ◌+◌, List}
-use Rattle.acct_base.specs.declared.charge.Charge.{Charge}
-use Rattle.acct_base.specs.declared.amount.Snapshot.{Snapshot}
-use Rattle.acct_base.specs.Amounts.{RowsAscend}
-use Rattle.acct_base.specs.Sums.{HoldsCharges, FullWasMet}
 use Rattle.grace_core.specs.declared.view.HookView.{HookView}
 use Rattle.grace_core.specs.declared.state.CollectAt.{CollectAt}
 use Rattle.grace_core.specs.declared.state.CollectAt.TheVariants.{Resting, Waiting, Draining}
@@ -40,10 +36,3 @@ IsOfHook event.LoadExits = ⊥
 IsOfHook event.TakeWord = ⊥
 IsOfHook event.Reopen = ⊥
 IsOfHook _ = Unit {0}
-
--- A snapshot of the n-th phase holds what the phase's charges come to, and where a charge did not land the snapshot is full of other labels.
-pub record IsSnapshotOf (size : ℕ) (charges : List Charge) (n : ℕ) (snapshot : Snapshot) : Type 0 where
-  pub phase : snapshot.phase ≡ n
-  pub ascend : RowsAscend snapshot.rows
-  pub holds : HoldsCharges charges n snapshot.rows
-  pub full : FullWasMet size charges n snapshot.rows

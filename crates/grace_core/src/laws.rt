@@ -3,7 +3,7 @@
 ghost use Rattle.std.specs.Prelude.{◌≡◌, ◌<◌, ◌≤◌, ◌^◌, ℕ, List, ◌∷◌, Some, slice_get};
 ghost use Rattle.grace_core.specs.Good.{side, IsGood};
 ghost use Rattle.grace_core.specs.Machine.{started, after, after_all, exits_at, old_phase};
-ghost use Rattle.grace_core.specs.Phases.{NobodyInside, IsUsed, WaitsForNobody, other_side, IsOfHook, IsSnapshotOf};
+ghost use Rattle.grace_core.specs.Phases.{NobodyInside, IsUsed, WaitsForNobody, other_side, IsOfHook};
 ghost use Rattle.grace_core.specs.Rows.{Has};
 ghost use Rattle.grace_core.specs.Sums.{charges_of};
 ghost use Rattle.grace_core.specs.declared.event.Event.{Event};
@@ -13,6 +13,7 @@ ghost use Rattle.grace_core.specs.declared.event.Event.TheVariants.{LoadExits};
 ghost use Rattle.acct_base.specs.declared.amount.Snapshot.{Snapshot};
 ghost use Rattle.acct_base.specs.declared.label.Label.{Label};
 ghost use Rattle.acct_base.specs.Amounts.{IsValidLabel};
+ghost use Rattle.acct_base.specs.Sums.{HoldsPhase};
 
 /// After every list of events from the start, enabled or not, the state is good.
 pub fn every_state_is_good()
@@ -49,5 +50,5 @@ pub fn a_label_has_one_row()
 pub fn snapshots_hold_their_charges()
     ensures { (s : State) (n : ℕ) (snapshot : Snapshot) →
         IsGood s → slice_get s.snapshots n ≡ Some snapshot →
-        IsSnapshotOf s.rows (charges_of s.hooks) n snapshot }
+        HoldsPhase s.rows (charges_of s.hooks) n snapshot }
 {}

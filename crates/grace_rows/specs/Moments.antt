@@ -2,7 +2,7 @@
 use Rattle.std.specs.Prelude.{◌≡◌, ℕ, ◌+◌, ◌<◌, List, map, drop, slice_index}
 use mathlib.Core.Option.{some}
 use lib.ListN.{get_elem?}
-use Rattle.atomic_table.specs.Table.{State}
+use Rattle.atomic_table.specs.Table as table
 use Rattle.acct_base.specs.declared.charge.Landed.{Landed}
 use Rattle.acct_base.specs.declared.charge.Landed.TheVariants.{Row, Full}
 use Rattle.acct_base.specs.declared.label.Label.{Label}
@@ -17,12 +17,16 @@ use Rattle.grace_rows.specs.Shown.{Kept, collector_of}
 use Rattle.grace_rows.specs.Sights.{hook_of, spots_of}
 use Rattle.grace_rows.specs.Spots.{HasItsLabel}
 
+-- A moment of the table: its words and its views.
+abbrev pub Moment : Type 0
+Moment = table.State Try Sight
+
 -- It holds at each moment: whatever words and views the maps have, as long as they keep the rule of the table.
-abbrev pub AtEachMoment : PairedState → (State Try Sight → Type 0) → Type 0
-AtEachMoment maps P = (s : State Try Sight) → Kept (record { rows = maps.rows; calls = maps.calls }) s → P s
+abbrev pub AtEachMoment : PairedState → (Moment → Type 0) → Type 0
+AtEachMoment maps P = (s : Moment) → Kept (record { rows = maps.rows; calls = maps.calls }) s → P s
 
 -- A seat with just these notes is one of the views.
-abbrev pub Noted : List Spot → State Try Sight → Type 0
+abbrev pub Noted : List Spot → Moment → Type 0
 Noted spots s = (id : ℕ) × (x : Sight) × (get_elem? s.views id ≡ some x) × (spots_of x ≡ spots)
 
 -- The row that a charge answers is the label's: it is one of the map's, and at each moment at which the seat has these notes the row has both key words of the label, as long as the phase is in use.
@@ -31,7 +35,7 @@ IsRowOf maps spots phase label (Row row) = (row < maps.rows) × AtEachMoment map
 IsRowOf maps spots phase label Full = Unit {0}
 
 -- The old phase has been left so often.
-abbrev pub left_by : State Try Sight → ℕ → ℕ
+abbrev pub left_by : Moment → ℕ → ℕ
 left_by s phase = exits_at (slice_index s.words 1, slice_index s.words 2) phase
 
 -- What a flip counts as entered is how many hooks entered the old phase before it: at each moment while the collector stands there, those that have left the phase and those that are still inside it.
