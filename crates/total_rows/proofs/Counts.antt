@@ -1,5 +1,5 @@
 -- For a seat that has all calls of the table: the rows are those of its landed adds, so they are full exactly where as many different keys landed.
-use Rattle.std.proofs.Common.{◌≡◌, ◌≢◌, ℕ, suc, ◌+◌, ◌≤◌, ◌<◌, Bool, true, false, ◌||◌, ◌&&◌, nat_eq, cond, List, [], ◌∷◌, length, get_or, take, set, sum_by, refl, sym, ap, ◌∙◌, subst, arith, eq-eqb, ne_eqb, true≢false}
+use Rattle.std.proofs.Common.{◌≡◌, ◌≢◌, ℕ, suc, ◌+◌, ◌≤◌, ◌<◌, Bool, true, false, ◌||◌, ◌&&◌, nat_eq, cond, List, [], ◌∷◌, length, get_or, map, take, set, sum_by, refl, sym, ap, ◌∙◌, subst, arith, eq-eqb, ne_eqb, true≢false}
 use Rattle.std.proofs.lemmas.List.{get_or-take, length-take-le}
 use mathlib.Core.Logic.{dite}
 use mathlib.Core.Option.{some, some-ne-none}
@@ -13,13 +13,17 @@ use Rattle.total_rows.specs.declared.plan.View.{View}
 use Rattle.total_rows.specs.declared.plan.Stage.{Stage}
 use Rattle.total_rows.specs.declared.plan.Stage.TheVariants.{Idle, Probing, Row, Half, Looking, Reading}
 use Rattle.total_rows.specs.Rows.{code, spot, AllDecided, At}
-use Rattle.total_rows.specs.Sums.{if_is, landings, stands_at, uses, keys_landed}
+use Rattle.total_rows.specs.Sums.{if_is, landings, stands_at, uses}
 use Rattle.total_rows.specs.Rule.{busy, calls, IsAdd, Sits, Kept}
-use Rattle.total_rows.specs.Plays.{IsFullOf}
+use Rattle.total_rows.specs.Shown.{shown}
+use Rattle.acct_base.specs.declared.charge.Landed.{Landed}
+use Rattle.acct_base.specs.declared.charge.Landed.TheVariants.{Row as InRow, Full}
 use Rattle.acct_base.specs.Distinct.{mem, distinct}
+use Rattle.acct_base.specs.Landings.{is_row, add_lands}
 use Rattle.acct_base.proofs.DistinctLemmas.{distinct_is, distinct_at_most}
 use Rattle.acct_base.proofs.Members.{or_right, mem_at, at_mem, no_twice, nonzero, nonzero_mem, nonzero_short, nonzero_once}
 use Rattle.total_rows.proofs.Spots.{place_below, same_code, at_once, sum_moved, in_sum, zero_sum}
+use Rattle.total_rows.proofs.LandingLemmas.{keys_landed, own_lands, free_lands, full_misses}
 use Rattle.total_rows.proofs.Keeps.{nobody, no_calls, seats_stay}
 
 abbrev U : Type 0
@@ -28,14 +32,14 @@ U = Unit {0}
 -- the words of the keys that landed
 abbrev landed_codes : List Addition → List ℕ
 landed_codes [] = []
-landed_codes (a ∷ rest) = cond a.landed (code a.job.key ∷ landed_codes rest) (landed_codes rest)
+landed_codes (a ∷ rest) = cond (is_row a.landed) (code a.job.key ∷ landed_codes rest) (landed_codes rest)
 
 same_test : (a b : ℕ) → nat_eq (code a) (code b) ≡ nat_eq a b
 same_test a b = dite (ℕ_discrete a b) (λ (e : a ≡ b). eq-eqb (code a) (code b) (ap code e) ∙ sym (eq-eqb a b e)) (λ ne. ne_eqb (code a) (code b) (λ e. ne (same_code a b e)) ∙ sym (ne_eqb a b ne))
 
 code_mem : (key : ℕ) (l : List Addition) → mem (code key) (landed_codes l) ≡ mem key (keys_landed l)
 code_mem key [] = refl
-code_mem key (a ∷ l) = code_mem_step (code_mem key l) a.landed
+code_mem key (a ∷ l) = code_mem_step (code_mem key l) (is_row a.landed)
   where
     code_mem_step : mem (code key) (landed_codes l) ≡ mem key (keys_landed l) → (b : Bool) → mem (code key) (cond b (code a.job.key ∷ landed_codes l) (landed_codes l)) ≡ mem key (cond b (a.job.key ∷ keys_landed l) (keys_landed l))
     code_mem_step rest true = λ i. same_test a.job.key key i || rest i
@@ -43,7 +47,7 @@ code_mem key (a ∷ l) = code_mem_step (code_mem key l) a.landed
 
 code_distinct : (l : List Addition) → distinct (landed_codes l) ≡ distinct (keys_landed l)
 code_distinct [] = refl
-code_distinct (a ∷ l) = code_distinct_step (code_distinct l) a.landed
+code_distinct (a ∷ l) = code_distinct_step (code_distinct l) (is_row a.landed)
   where
     code_distinct_step : distinct (landed_codes l) ≡ distinct (keys_landed l) → (b : Bool) → distinct (cond b (code a.job.key ∷ landed_codes l) (landed_codes l)) ≡ distinct (cond b (a.job.key ∷ keys_landed l) (keys_landed l))
     code_distinct_step rest true = λ i. cond (code_mem a.job.key l i) 0 1 + rest i
@@ -52,7 +56,7 @@ code_distinct (a ∷ l) = code_distinct_step (code_distinct l) a.landed
 -- a code that landed is one of a key that landed
 code_of : (x : ℕ) (l : List Addition) → mem x (landed_codes l) ≡ true → (key : ℕ) × ((code key ≡ x) × (mem key (keys_landed l) ≡ true))
 code_of x [] h = absurd (true≢false (sym h))
-code_of x (a ∷ l) h = code_of_step (code_of x l) a.landed h
+code_of x (a ∷ l) h = code_of_step (code_of x l) (is_row a.landed) h
   where
     code_of_step : (mem x (landed_codes l) ≡ true → (key : ℕ) × ((code key ≡ x) × (mem key (keys_landed l) ≡ true))) → (b : Bool) → mem x (cond b (code a.job.key ∷ landed_codes l) (landed_codes l)) ≡ true → (key : ℕ) × ((code key ≡ x) × (mem key (cond b (a.job.key ∷ keys_landed l) (keys_landed l)) ≡ true))
     code_of_step rest true g = dite (ℕ_discrete (code a.job.key) x)
@@ -66,7 +70,7 @@ no_more n h = omega (arith, h)
 -- a key that landed is in the list, and the other way round
 landed_mem : (key : ℕ) (l : List Addition) → 0 < landings key l → mem key (keys_landed l) ≡ true
 landed_mem key [] h = absurd (omega (arith, h))
-landed_mem key (a ∷ l) h = landed_mem_step (landed_mem key l) a.landed h
+landed_mem key (a ∷ l) h = landed_mem_step (landed_mem key l) (is_row a.landed) h
   where
     landed_mem_step : (0 < landings key l → mem key (keys_landed l) ≡ true) → (b : Bool) → 0 < if_is (b && nat_eq a.job.key key) 1 + landings key l → mem key (cond b (a.job.key ∷ keys_landed l) (keys_landed l)) ≡ true
     landed_mem_step rest true g = dite (ℕ_discrete a.job.key key)
@@ -78,15 +82,15 @@ landed_at : (rows : ℕ) (words : List ℕ) (key : ℕ) (l : List Addition) → 
 landed_at rows words key [] h m = absurd (true≢false (sym m))
 landed_at rows words key (a ∷ l) h m = landed_at_step (landed_at rows words key l (λ i x f. h (suc i) x f)) a.landed (h 0 a refl) m
   where
-    landed_at_step : (mem key (keys_landed l) ≡ true → (turn : ℕ) × At rows words key turn) → (b : Bool) → IsAdd rows words a b → mem key (cond b (a.job.key ∷ keys_landed l) (keys_landed l)) ≡ true → (turn : ℕ) × At rows words key turn
-    landed_at_step rest true g m = dite (ℕ_discrete a.job.key key)
+    landed_at_step : (mem key (keys_landed l) ≡ true → (turn : ℕ) × At rows words key turn) → (b : Landed) → IsAdd rows words a b → mem key (cond (is_row b) (a.job.key ∷ keys_landed l) (keys_landed l)) ≡ true → (turn : ℕ) × At rows words key turn
+    landed_at_step rest (InRow row) g m = dite (ℕ_discrete a.job.key key)
         (λ (e : a.job.key ≡ key). (g.1.0, subst (λ (k : ℕ). At rows words k g.1.0) e g.1.1))
         (λ ne. rest (sym (ap (λ (b : Bool). b || mem key (keys_landed l)) (ne_eqb a.job.key key ne)) ∙ m))
-    landed_at_step rest false g m = rest m
+    landed_at_step rest Full g m = rest m
 
 landings_below : (key : ℕ) (l : List Addition) → landings key l ≤ length l
 landings_below key [] = omega arith
-landings_below key (a ∷ l) = let h = landings_below key l in let one : if_is (a.landed && nat_eq a.job.key key) 1 ≤ 1 = at_most_one (a.landed && nat_eq a.job.key key) in omega (arith, h, one)
+landings_below key (a ∷ l) = let h = landings_below key l in let one : if_is (is_row a.landed && nat_eq a.job.key key) 1 ≤ 1 = at_most_one (is_row a.landed && nat_eq a.job.key key) in omega (arith, h, one)
   where
     at_most_one : (b : Bool) → if_is b 1 ≤ 1
     at_most_one true = omega arith
@@ -181,19 +185,18 @@ module _ (z : Plan) (s : State U View) (r : Kept z s) (id : ℕ) (v : View) (at 
       let short = nonzero_short keys_of zero_in in let same = code_distinct v.adds in omega (arith, most, short, n, same)
 
   -- every row belongs to another key
-  pub full_for : (key : ℕ) → AllDecided R s.words key R → IsFullOf R key v.adds
-  full_for key all = (
-    all_taken (λ i h. let t = place-surjective (code key) 1 i R h in subst (λ (p : ℕ). get_or s.words p 0 ≢ 0) t.2 (all t.0 t.1).0),
-    not_there (mem key (keys_landed v.adds)) (λ m. let t = landed_row key m in (all t.0 (t.1).inside).1 (t.1).is),
-  )
+  pub full_here : (key : ℕ) → AllDecided R s.words key R → add_lands R (map shown v.adds) key ≡ false
+  full_here key all = full_misses R key v.adds
+      (all_taken (λ i h. let t = place-surjective (code key) 1 i R h in subst (λ (p : ℕ). get_or s.words p 0 ≢ 0) t.2 (all t.0 t.1).0))
+      (not_there (mem key (keys_landed v.adds)) (λ m. let t = landed_row key m in (all t.0 (t.1).inside).1 (t.1).is))
     where
       not_there : (b : Bool) → (b ≡ true → ⊥) → b ≡ false
       not_there true h = absurd (h refl)
       not_there false h = refl
 
   -- a row is free, or the key's own
-  pub not_full_free : (key i : ℕ) → i < R → get_or s.words i 0 ≡ 0 → IsFullOf R key v.adds → ⊥
-  not_full_free key i inside free full = let few = some_free i inside free in let all = full.0 in omega (arith, few, all)
+  pub free_here : (key i : ℕ) → i < R → get_or s.words i 0 ≡ 0 → add_lands R (map shown v.adds) key ≡ true
+  free_here key i inside free = free_lands R key v.adds (some_free i inside free)
 
-  pub not_full_own : (key turn : ℕ) → At R s.words key turn → IsFullOf R key v.adds → ⊥
-  not_full_own key turn a full = true≢false (sym (row_landed key turn a) ∙ full.1)
+  pub own_here : (key turn : ℕ) → At R s.words key turn → add_lands R (map shown v.adds) key ≡ true
+  own_here key turn a = own_lands R key v.adds (row_landed key turn a)

@@ -21,13 +21,17 @@ use Rattle.total_rows.specs.declared.plan.Addition.{Addition}
 use Rattle.total_rows.specs.declared.plan.View.{View}
 use Rattle.total_rows.specs.declared.plan.Stage.TheVariants.{Idle}
 use Rattle.total_rows.specs.Rows.{code, spot, AllDecided, At}
-use Rattle.total_rows.specs.Sums.{if_is, added, under_way, stands_at, keys_landed}
+use Rattle.total_rows.specs.Sums.{if_is, added, under_way, stands_at}
 use Rattle.total_rows.specs.Rule.{calls, IsAdd, Kept}
+use Rattle.acct_base.specs.declared.charge.Landed.{Landed}
+use Rattle.acct_base.specs.declared.charge.Landed.TheVariants.{Row as InRow, Full}
 use Rattle.acct_base.specs.Distinct.{mem, NoTwice}
+use Rattle.acct_base.specs.Landings.{is_row}
 use Rattle.total_rows.specs.Shown.{shown}
 use Rattle.total_rows.specs.Closed.{row_amount, row_pair, rows_below, key_of, AreKeys}
 use Rattle.acct_base.proofs.Members.{or_right}
 use Rattle.total_rows.proofs.Spots.{place_below, in_sum}
+use Rattle.total_rows.proofs.LandingLemmas.{keys_landed, all_at, all-append}
 use Rattle.total_rows.proofs.Keeps.{sole_has_all, none_added}
 use Rattle.total_rows.proofs.Counts.{apart, row_landed}
 use Rattle.total_rows.proofs.ShownLemmas.{total_rx_packets, total_rx_bytes, total_tx_packets, total_tx_bytes, amount_is}
@@ -174,18 +178,9 @@ same_flip x y = dite (ℕ_discrete x y) (λ (e : x ≡ y). eq-eqb x y e ∙ sym 
 
 -- ---- words of lists
 
-all_at : {X : Type 0} (P : X → Type 0) (xs : List X) → AllByRecursion P xs → All P xs
-all_at P [] h k d l = absurd (omega (arith, l))
-all_at P (x ∷ xs) h zero d l = h.0
-all_at P (x ∷ xs) h (suc k) d l = all_at P xs h.1 k d (omega (arith, l))
-
 all_keys : (P : ℕ → Type 0) (ts : List (ℕ × Amount)) → All (λ (t : ℕ × Amount). P t.0) ts → AllByRecursion P (map key_of ts)
 all_keys P [] h = tt
 all_keys P (t ∷ ts) h = (h 0 t (omega arith), all_keys P ts (λ k d l. h (suc k) d (omega (arith, l))))
-
-all-append : {X : Type 0} (P : X → Type 0) (xs ys : List X) → AllByRecursion P xs → AllByRecursion P ys → AllByRecursion P (xs ++ ys)
-all-append P [] ys h k = k
-all-append P (x ∷ xs) ys h k = (h.0, all-append P xs ys h.1 k)
 
 get_or_map : (ts : List (ℕ × Amount)) (i d : ℕ) (a : Amount) → get_or (map key_of ts) i d ≡ (get_or ts i (d, a)).0
 get_or_map [] i d a = refl
@@ -202,7 +197,7 @@ no_key key (x ∷ xs) h = λ i. h.0 i || no_key key xs h.1 i
 
 any_landed : (key : ℕ) (l : List Addition) → mem key (keys_landed l) ≡ true → list_any (lands_on key) (map shown l) ≡ true
 any_landed key [] h = h
-any_landed key (a ∷ l) h = any_step (any_landed key l) a.landed h
+any_landed key (a ∷ l) h = any_step (any_landed key l) (is_row a.landed) h
   where
     any_step : (mem key (keys_landed l) ≡ true → list_any (lands_on key) (map shown l) ≡ true) → (b : Bool) → mem key (cond b (a.job.key ∷ keys_landed l) (keys_landed l)) ≡ true → ((b && a.job.key == key) || list_any (lands_on key) (map shown l)) ≡ true
     any_step rest true g = ⊎_elim (λ (e : nat_eq a.job.key key ≡ true). ap (λ (c : Bool). c || list_any (lands_on key) (map shown l)) e) (λ (m : mem key (keys_landed l) ≡ true). or_right (a.job.key == key) (list_any (lands_on key) (map shown l)) (rest m)) (either_true (nat_eq a.job.key key) (mem key (keys_landed l)) g)
@@ -213,11 +208,11 @@ small_key : (rows : ℕ) (words : List ℕ) (key : ℕ) (l : List Addition) → 
 small_key rows words key [] h m = absurd (true≢false (sym m))
 small_key rows words key (a ∷ l) h m = small_step (small_key rows words key l (λ i x f. h (suc i) x f)) a.landed (h 0 a refl) m
   where
-    small_step : (mem key (keys_landed l) ≡ true → key < 2 ^ 32) → (b : Bool) → IsAdd rows words a b → mem key (cond b (a.job.key ∷ keys_landed l) (keys_landed l)) ≡ true → key < 2 ^ 32
-    small_step rest true g m = dite (ℕ_discrete a.job.key key)
+    small_step : (mem key (keys_landed l) ≡ true → key < 2 ^ 32) → (b : Landed) → IsAdd rows words a b → mem key (cond (is_row b) (a.job.key ∷ keys_landed l) (keys_landed l)) ≡ true → key < 2 ^ 32
+    small_step rest (InRow row) g m = dite (ℕ_discrete a.job.key key)
         (λ (e : a.job.key ≡ key). subst (λ (k : ℕ). k < 2 ^ 32) e (g.0).key)
         (λ ne. rest (sym (ap (λ (b : Bool). b || mem key (keys_landed l)) (ne_eqb a.job.key key ne)) ∙ m))
-    small_step rest false g m = rest m
+    small_step rest Full g m = rest m
 
 -- ---- totals number by number
 
@@ -368,7 +363,11 @@ module _ (z : Plan) (s : State U View) (r : Kept z s) (id : ℕ) (v : View) (at 
 
     full_shown_all : (l : List Addition) → ((i : ℕ) (a : Addition) → get_elem? l i ≡ some a → IsAdd R W a a.landed) → AllByRecursion IsShown (map shown l)
     full_shown_all [] h = tt
-    full_shown_all (a ∷ l) h = (λ missed. missed_shown a.job.key (subst (IsAdd R W a) missed (h 0 a refl)).1, full_shown_all l (λ i x e. h (suc i) x e))
+    full_shown_all (a ∷ l) h = (missed a.landed (h 0 a refl), full_shown_all l (λ i x e. h (suc i) x e))
+      where
+        missed : (b : Landed) → IsAdd R W a b → is_row b ≡ false → (length T ≡ R) × (has_key T a.job.key ≡ false)
+        missed (InRow row) add e = absurd (true≢false e)
+        missed Full add e = missed_shown a.job.key add.1
 
     pub are_totals : AreTotals R (map shown v.adds) T
     are_totals = record {

@@ -16,17 +16,23 @@ use Rattle.total_rows.specs.declared.plan.View.{View}
 use Rattle.total_rows.specs.declared.plan.Stage.{Stage}
 use Rattle.total_rows.specs.declared.plan.Stage.TheVariants.{Idle, Probing, Row, Half, Looking, Reading}
 use Rattle.total_rows.specs.Rows.{code, spot, AllDecided, At, Owned}
+use Rattle.acct_base.specs.declared.charge.Landed.{Landed}
+use Rattle.acct_base.specs.declared.charge.Landed.TheVariants.{Row as InRow, Full}
+use Rattle.acct_base.specs.Landings.{is_row}
 use Rattle.acct_base.specs.declared.packet.Dir.{Dir}
 use Rattle.acct_base.specs.declared.packet.Dir.TheVariants.{Ingress, Egress}
 use Rattle.total_rows.specs.Sums.{side, if_is, packets_in, bytes_in, added, under_way, part, landings, stands_at, uses, noted}
 use Rattle.total_rows.specs.Rule.{busy, calls, IsJob, Stands, IsAdd, Sits, Tells, Kept}
 use Rattle.total_rows.specs.Plays.{begun, landed}
+use Rattle.total_rows.specs.Seats.{IsOneToOne}
+use Rattle.total_rows.specs.Shown.{places_of}
+use Rattle.total_rows.proofs.LandingLemmas.{one_to_one}
 use Rattle.total_rows.proofs.Spots.{place_below, Stays, all_stay, at_stays, owned_stays, sits_on, owner_is, at_once, nowhere, same_code, sum_moved, in_sum, sum_below, zero_sum, read_at}
 
 abbrev U : Type 0
 U = Unit {0}
 
-pub added_snoc : (key c : ℕ) (l : List Addition) (a : Addition) → added key c (l ++ a ∷ []) ≡ added key c l + if_is (a.landed && nat_eq a.job.key key) (packets_in a.job c + bytes_in a.job c)
+pub added_snoc : (key c : ℕ) (l : List Addition) (a : Addition) → added key c (l ++ a ∷ []) ≡ added key c l + if_is (is_row a.landed && nat_eq a.job.key key) (packets_in a.job c + bytes_in a.job c)
 added_snoc key c [] a = omega arith
 added_snoc key c (x ∷ xs) a = let h = added_snoc key c xs a in omega arith
 
@@ -38,7 +44,7 @@ side_next : (d : Dir) → 2 * side d + 1 < 4
 side_next Ingress = omega arith
 side_next Egress = omega arith
 
-pub landings-snoc : (key : ℕ) (l : List Addition) (a : Addition) → landings key (l ++ a ∷ []) ≡ landings key l + if_is (a.landed && nat_eq a.job.key key) 1
+pub landings-snoc : (key : ℕ) (l : List Addition) (a : Addition) → landings key (l ++ a ∷ []) ≡ landings key l + if_is (is_row a.landed && nat_eq a.job.key key) 1
 landings-snoc key [] a = omega arith
 landings-snoc key (x ∷ xs) a = let h = landings-snoc key xs a in omega arith
 
@@ -59,12 +65,12 @@ job_below j c h = let x : packets_in j c ≤ 2 ^ 19 = if_below (nat_eq c (2 * si
 
 added_below : (rows : ℕ) (words : List ℕ) (key c : ℕ) (l : List Addition) → ((i : ℕ) (a : Addition) → get_elem? l i ≡ some a → IsJob a.job) → added key c l ≤ length l * 2 ^ 20
 added_below rows words key c [] h = omega arith
-added_below rows words key c (a ∷ l) h = let x = if_below (a.landed && nat_eq a.job.key key) (packets_in a.job c + bytes_in a.job c) (2 ^ 20) (job_below a.job c (h 0 a refl)) in
+added_below rows words key c (a ∷ l) h = let x = if_below (is_row a.landed && nat_eq a.job.key key) (packets_in a.job c + bytes_in a.job c) (2 ^ 20) (job_below a.job c (h 0 a refl)) in
     let y = added_below rows words key c l (λ i b e. h (suc i) b e) in omega arith
 
-job_of : (rows : ℕ) (words : List ℕ) (a : Addition) (b : Bool) → IsAdd rows words a b → IsJob a.job
-job_of rows words a true h = h.0
-job_of rows words a false h = h.0
+job_of : (rows : ℕ) (words : List ℕ) (a : Addition) (b : Landed) → IsAdd rows words a b → IsJob a.job
+job_of rows words a (InRow row) h = h.0
+job_of rows words a Full h = h.0
 
 way_below : (rows : ℕ) (words : List ℕ) (key c : ℕ) (st : Stage) → Stands rows words st → under_way key c st ≤ busy st * 2 ^ 20
 way_below rows words key c Idle h = omega arith
@@ -139,9 +145,9 @@ bytes_else l new a b e f g = omega arith
 bytes_own : (l new a b k : ℕ) {w : ℕ} → l ≡ a + new → w ≡ b → new ≡ b + k → l + 0 ≡ (a + w) + k
 bytes_own l new a b k e f g = omega arith
 
-none_one : (rows : ℕ) (words : List ℕ) (key c : ℕ) → ((u : ℕ) → At rows words key u → ⊥) → (a : Addition) (b : Bool) → IsAdd rows words a b → if_is (b && nat_eq a.job.key key) (packets_in a.job c + bytes_in a.job c) ≡ 0
-none_one rows words key c nope a true h = pick_other a.job.key key (packets_in a.job c + bytes_in a.job c) (λ e. nope h.1.0 (subst (λ (x : ℕ). At rows words x h.1.0) e h.1.1))
-none_one rows words key c nope a false h = refl
+none_one : (rows : ℕ) (words : List ℕ) (key c : ℕ) → ((u : ℕ) → At rows words key u → ⊥) → (a : Addition) (b : Landed) → IsAdd rows words a b → if_is (is_row b && nat_eq a.job.key key) (packets_in a.job c + bytes_in a.job c) ≡ 0
+none_one rows words key c nope a (InRow row) h = pick_other a.job.key key (packets_in a.job c + bytes_in a.job c) (λ e. nope h.1.0 (subst (λ (x : ℕ). At rows words x h.1.0) e h.1.1))
+none_one rows words key c nope a Full h = refl
 
 pub none_added : (rows : ℕ) (words : List ℕ) (key c : ℕ) → ((u : ℕ) → At rows words key u → ⊥) → (l : List Addition) → ((i : ℕ) (a : Addition) → get_elem? l i ≡ some a → IsAdd rows words a a.landed) → added key c l ≡ 0
 none_added rows words key c nope [] h = refl
@@ -326,29 +332,31 @@ module _ (z : Plan) where
       )
 
   pub adds_bytes : (slots id : ℕ) (me : M) (j : Job) (turn : ℕ) → me.0.stage ≡ Half j turn
-      → Allows (Kept z) slots id me (R + 4 * spot R j.key turn + (2 * side j.dir + 1)) (λ n. (n + j.bytes) % 2 ^ 64) (λ _ m. (m.0 ≡ record me.0 { stage = Idle; adds = me.0.adds ++ landed j ∷ [] }) × (m.1 ≡ me.1))
-  adds_bytes slots id me j turn is s r _ at _ = let v : View = me.0 in let sits = r.each_seat id v at in let st : Stands R s.words (Half j turn) = subst (Stands R s.words) is sits.stands in
-      let w : View = record v { stage = Idle; adds = v.adds ++ landed j ∷ [] } in let c : ℕ = 2 * side j.dir + 1 in let i : ℕ = R + 4 * spot R j.key turn + c in
+      → Allows (Kept z) slots id me (R + 4 * spot R j.key turn + (2 * side j.dir + 1)) (λ n. (n + j.bytes) % 2 ^ 64) (λ _ m. (m.0 ≡ record me.0 { stage = Idle; adds = me.0.adds ++ landed j (spot R j.key turn) ∷ [] }) × IsOneToOne (places_of (me.0.adds ++ landed j (spot R j.key turn) ∷ [])) × (m.1 ≡ me.1))
+  adds_bytes slots id me j turn is s r _ at _ = let v : View = me.0 in let sits = r.each_seat id v at in let st : Stands R s.words (Half j turn) = subst (Stands R s.words) is sits.stands in let row : ℕ = spot R j.key turn in
+      let adds_ : (q : ℕ) (a : Addition) → get_elem? (v.adds ++ landed j row ∷ []) q ≡ some a → IsAdd R s.words a a.landed = λ q a e.
+      ⊎_elim (λ (t : get_elem? v.adds q ≡ some a). sits.adds q a t) (λ (t : landed j row ≡ a). subst (λ (y : Addition). IsAdd R s.words y y.landed) t (st.0, (turn, st.1, refl))) (at_snoc v.adds (landed j row) a q e) in
+      let w : View = record v { stage = Idle; adds = v.adds ++ landed j row ∷ [] } in let c : ℕ = 2 * side j.dir + 1 in let i : ℕ = R + 4 * spot R j.key turn + c in
       let low : c < 4 = side_next j.dir in
       let was : (key2 c2 : ℕ) → under_way key2 c2 v.stage ≡ if_is (nat_eq j.key key2) (packets_in j c2) = λ key2 c2. ap (under_way key2 c2) is in
-      let held : busy v.stage ≡ 1 = ap busy is in let n = sits.counted in let long : length (v.adds ++ landed j ∷ []) ≡ length v.adds + 1 = length-append v.adds (landed j ∷ []) in (
+      let held : busy v.stage ≡ 1 = ap busy is in let n = sits.counted in let long : length (v.adds ++ landed j row ∷ []) ≡ length v.adds + 1 = length-append v.adds (landed j row ∷ []) in (
         w,
         keeps,
         tt,
         subst (λ (x : ℕ). Kept z (stepped s i x id me.1 w keeps)) (sym (number s r j.key turn c j.bytes st.1 low st.0.bytes))
             (raised s r id me.1 v w j.key turn c j.bytes at st.1 low record {
               stands = tt;
-              adds = λ q a e. ⊎_elim (λ (t : get_elem? v.adds q ≡ some a). sits.adds q a t) (λ (t : landed j ≡ a). subst (λ (y : Addition). IsAdd R s.words y y.landed) t (st.0, (turn, st.1))) (at_snoc v.adds (landed j) a q e);
+              adds = adds_;
               counted = omega arith;
             } record {
               calls_stay = refl;
-              parts = λ key2 c2. last_part (added key2 c2 (v.adds ++ landed j ∷ [])) (added key2 c2 v.adds) (under_way key2 c2 v.stage) (if_is (nat_eq j.key key2) (packets_in j c2)) (if_is (nat_eq j.key key2) (packets_in j c2 + bytes_in j c2)) (added_snoc key2 c2 v.adds (landed j)) (was key2 c2) (if_more (nat_eq j.key key2) (packets_in j c2) (bytes_in j c2));
-              rows = λ key2. last_uses (landings key2 (v.adds ++ landed j ∷ [])) (landings key2 v.adds) (stands_at key2 v.stage) (if_is (nat_eq j.key key2) 1) (landings-snoc key2 v.adds (landed j)) (ap (stands_at key2) is);
+              parts = λ key2 c2. last_part (added key2 c2 (v.adds ++ landed j row ∷ [])) (added key2 c2 v.adds) (under_way key2 c2 v.stage) (if_is (nat_eq j.key key2) (packets_in j c2)) (if_is (nat_eq j.key key2) (packets_in j c2 + bytes_in j c2)) (added_snoc key2 c2 v.adds (landed j row)) (was key2 c2) (if_more (nat_eq j.key key2) (packets_in j c2) (bytes_in j c2));
+              rows = λ key2. last_uses (landings key2 (v.adds ++ landed j row ∷ [])) (landings key2 v.adds) (stands_at key2 v.stage) (if_is (nat_eq j.key key2) 1) (landings-snoc key2 v.adds (landed j row)) (ap (stands_at key2) is);
               notes = λ i n e. r.each_note id v at i n e;
             }
-            (λ key2 c2 apart. bytes_else _ _ _ _ (added_snoc key2 c2 v.adds (landed j)) (was key2 c2) (other_bytes j key2 c2 apart))
-            (bytes_own _ _ _ _ _ (added_snoc j.key c v.adds (landed j)) (was j.key c) (own_bytes j))),
-        (refl, refl),
+            (λ key2 c2 apart. bytes_else _ _ _ _ (added_snoc key2 c2 v.adds (landed j row)) (was key2 c2) (other_bytes j key2 c2 apart))
+            (bytes_own _ _ _ _ _ (added_snoc j.key c v.adds (landed j row)) (was j.key c) (own_bytes j))),
+        (refl, one_to_one R s.words (v.adds ++ landed j row ∷ []) adds_, refl),
       )
 
   -- what begins a call, or goes on with it: the numbers of calls, and what stays
@@ -428,12 +436,13 @@ module _ (z : Plan) where
       let m = sum_moved (part key c) s.views id v nobody at in
       all_his (sum_by (part key c) s.views) (sum_by (part key c) vs) (added key c v.adds) (under_way key c v.stage) m empty quiet
 
-  pub adds_packets_at : (slots id : ℕ) (me : M) (i k : ℕ) (j j' : Job) (turn turn' : ℕ) → me.0.stage ≡ Row j turn → i ≡ R + 4 * spot R j.key turn + 2 * side j.dir → k ≡ j.packets → j' ≡ j → turn' ≡ turn
+  pub adds_packets_at : (slots id : ℕ) (me : M) (i k row : ℕ) (j j' : Job) (turn turn' : ℕ) → me.0.stage ≡ Row j turn → row ≡ spot R j.key turn → i ≡ R + 4 * row + 2 * side j.dir → k ≡ j.packets → j' ≡ j → turn' ≡ turn
       → Allows (Kept z) slots id me i (λ n. (n + k) % 2 ^ 64) (λ _ m. (m.0 ≡ record me.0 { stage = Half j' turn' }) × (m.1 ≡ me.1))
-  adds_packets_at slots id me i k j j' turn turn' is place e a b = subst (λ (x : ℕ × ℕ × Job × ℕ). Allows (Kept z) slots id me x.0 (λ n. (n + x.1) % 2 ^ 64) (λ _ m. (m.0 ≡ record me.0 { stage = Half x.2 x.3 }) × (m.1 ≡ me.1)))
-      (λ t. (sym place t, sym e t, sym a t, sym b t)) (adds_packets slots id me j turn is)
+  adds_packets_at slots id me i k row j j' turn turn' is here place e a b = subst (λ (x : ℕ × ℕ × Job × ℕ). Allows (Kept z) slots id me x.0 (λ n. (n + x.1) % 2 ^ 64) (λ _ m. (m.0 ≡ record me.0 { stage = Half x.2 x.3 }) × (m.1 ≡ me.1)))
+      (λ t. (sym (place ∙ ap (λ (p : ℕ). R + 4 * p + 2 * side j.dir) here) t, sym e t, sym a t, sym b t)) (adds_packets slots id me j turn is)
 
-  pub adds_bytes_at : (slots id : ℕ) (me : M) (i k : ℕ) (j j' : Job) (turn : ℕ) → me.0.stage ≡ Half j turn → i ≡ R + 4 * spot R j.key turn + (2 * side j.dir + 1) → k ≡ j.bytes → j' ≡ j
-      → Allows (Kept z) slots id me i (λ n. (n + k) % 2 ^ 64) (λ _ m. (m.0 ≡ record me.0 { stage = Idle; adds = me.0.adds ++ landed j' ∷ [] }) × (m.1 ≡ me.1))
-  adds_bytes_at slots id me i k j j' turn is place e a = subst (λ (x : ℕ × ℕ × Job). Allows (Kept z) slots id me x.0 (λ n. (n + x.1) % 2 ^ 64) (λ _ m. (m.0 ≡ record me.0 { stage = Idle; adds = me.0.adds ++ landed x.2 ∷ [] }) × (m.1 ≡ me.1)))
-      (λ t. (sym place t, sym e t, sym a t)) (adds_bytes slots id me j turn is)
+  pub adds_bytes_at : (slots id : ℕ) (me : M) (i k row row' : ℕ) (j j' : Job) (turn : ℕ) → me.0.stage ≡ Half j turn → row ≡ spot R j.key turn → i ≡ R + 4 * row + (2 * side j.dir + 1) → k ≡ j.bytes → j' ≡ j → row' ≡ row
+      → Allows (Kept z) slots id me i (λ n. (n + k) % 2 ^ 64) (λ _ m. (m.0 ≡ record me.0 { stage = Idle; adds = me.0.adds ++ landed j' row' ∷ [] }) × IsOneToOne (places_of (me.0.adds ++ landed j' row' ∷ [])) × (m.1 ≡ me.1))
+  adds_bytes_at slots id me i k row row' j j' turn is here place e a b = subst (λ (x : ℕ × ℕ × Job × ℕ).
+      Allows (Kept z) slots id me x.0 (λ n. (n + x.1) % 2 ^ 64) (λ _ m. (m.0 ≡ record me.0 { stage = Idle; adds = me.0.adds ++ landed x.2 x.3 ∷ [] }) × IsOneToOne (places_of (me.0.adds ++ landed x.2 x.3 ∷ [])) × (m.1 ≡ me.1)))
+      (λ t. (sym (place ∙ ap (λ (p : ℕ). R + 4 * p + (2 * side j.dir + 1)) here) t, sym e t, sym a t, sym (b ∙ here) t)) (adds_bytes slots id me j turn is)

@@ -1,6 +1,8 @@
 -- What a seat knows, as an amount.
-use Rattle.std.proofs.Common.{◌≡◌, ℕ, ◌+◌, ◌≤◌, [], ◌∷◌, ◌++◌, map, sym, ◌∙◌, arith}
+use Rattle.std.proofs.Common.{◌≡◌, ℕ, ◌+◌, ◌-◌, ◌≤◌, List, [], ◌∷◌, ◌++◌, length, map, refl, sym, ap, subst, ◌∙◌, arith}
 use Rattle.std.specs.Prelude.{max}
+use mathlib.Core.Logic.{dite}
+use native.Mathlib.Decide.{ℕ_discrete}
 use Rattle.acct_base.specs.declared.amount.Amount.{Amount}
 use Rattle.acct_base.specs.Amounts.{IsAtMost}
 use Rattle.acct_base.specs.Sums.{added as total_of}
@@ -8,10 +10,13 @@ use Rattle.total_rows.specs.declared.plan.View.{View}
 use Rattle.total_rows.specs.Sums.{added, most, knows}
 use Rattle.total_rows.specs.Rule.{calls}
 use Rattle.total_rows.specs.declared.plan.Note.TheVariants.{Adds}
-use Rattle.total_rows.specs.Plays.{split_right, joined}
+use Rattle.total_rows.specs.declared.plan.Addition.{Addition}
+use Rattle.total_rows.specs.declared.plan.Stage.TheVariants.{Idle}
+use Rattle.total_rows.specs.Plays.{begun, split_right, joined, Settled}
 use Rattle.total_rows.specs.Shown.{shown}
 use Rattle.total_rows.specs.Seats.{noted_of, greater}
 use Rattle.total_rows.specs.ReadSteps.{ReadsNumbers, ReadsKey}
+use Rattle.total_rows.proofs.Keeps.{added_snoc}
 use Rattle.total_rows.proofs.ReadLemmas.{most-append}
 use Rattle.total_rows.proofs.SeatLemmas.{added-append}
 use Rattle.total_rows.proofs.ShownLemmas.{total_rx_packets, total_rx_bytes, total_tx_packets, total_tx_bytes, amount_is}
@@ -83,3 +88,96 @@ known_own key m h = let own = total_of (map shown m.adds) key in
 
 pub sole_join : (l m l' m' a b a' b' n : ℕ) → l ≡ a → m ≡ b → l' ≡ a' → m' ≡ b' → (l + l') + (m + m') ≡ n → (a + a') + (b + b') ≡ n
 sole_join l m l' m' a b a' b' n e f g h i = omega (arith, e, f, g, h, i)
+
+-- ---- what a seat that has all calls knows
+
+pub settled_own : (all : ℕ) (m : View) → Settled all m → calls m ≡ all → (key : ℕ) → view_known m key ≡ total_of (map shown m.adds) key
+settled_own all m s sole key = known_own key m (s.sole sole key)
+
+-- after a read
+pub read_own : (all key : ℕ) (m m' : View) (a : Amount) → ReadsKey all key m a m' → Settled all m → calls m ≡ all → (k : ℕ) → view_known m' k ≡ total_of (map shown m'.adds) k
+read_own all key m m' a r s sole k = dite (ℕ_discrete k key)
+    (λ (e : k ≡ key). subst (λ (x : ℕ). view_known m' x ≡ total_of (map shown m'.adds) x) (sym e)
+    (sym (knows_answer all key m m' a r) ∙ (sole_reads_own all key m a r.numbers sole ∙ ap (λ (x : View). total_of (map shown x.adds) key) (sym r.view))))
+    (λ ne. known_own k m' (λ c. (λ i. max (r.others k c ne i) (added k c (r.view i).adds)) ∙ (s.sole sole k c ∙ ap (λ (x : View). added k c x.adds) (sym r.view))))
+
+-- after all calls were given away: none was made before, and nothing was added
+all_given : (all n left made : ℕ) → left + made ≤ all → n ≤ left → n + 0 ≡ all → (left + made ≡ all) × (made ≡ 0)
+all_given all n left made h i e = (omega (arith, h, i, e), omega (arith, h, i, e))
+
+nothing_in : (made : ℕ) (l : List Addition) → length l ≤ made → made ≡ 0 → l ≡ []
+nothing_in made [] h e = refl
+nothing_in made (x ∷ xs) h e = absurd (omega (arith, h, e))
+
+pub given_own : (all n : ℕ) (m : View) → Settled all m → n ≤ m.left → n + 0 ≡ all → (key : ℕ) → view_known m key ≡ total_of [] key
+given_own all n m s within sole key = let t = all_given all n m.left m.made s.within within sole in
+    settled_own all m s t.0 key ∙ ap (λ (l : List Addition). total_of (map shown l) key) (nothing_in m.made m.adds s.counted t.1)
+
+-- after an add
+grown : (a b k : ℕ) → b ≡ a + k → a ≤ b
+grown a b k e = omega (arith, e)
+
+own_grown : (n a b k : ℕ) → max n a ≡ a → b ≡ a + k → max n b ≡ b
+own_grown n a b k e f = omega (arith, e, f)
+
+pub add_own : (all : ℕ) (m : View) (x : Addition) → Settled all (begun m Idle) → calls (begun m Idle) ≡ all → (key : ℕ) → view_known (record (begun m Idle) { adds = m.adds ++ x ∷ [] }) key ≡ total_of (map shown (m.adds ++ x ∷ [])) key
+add_own all m x s sole key = known_own key (record (begun m Idle) { adds = m.adds ++ x ∷ [] }) (λ c. own_grown (most key c m.notes) (added key c m.adds) (added key c (m.adds ++ x ∷ [])) _ (s.sole sole key c) (added_snoc key c m.adds x))
+
+-- ---- what is known never falls
+
+grown_number : (n a b k t u : ℕ) → t ≡ a → u ≡ b → b ≡ a + k → max n t ≤ max n u
+grown_number n a b k t u e f g = omega (arith, e, f, g)
+
+pub add_grows : (m : View) (x : Addition) (key : ℕ) → IsAtMost (view_known m key) (view_known (record (begun m Idle) { adds = m.adds ++ x ∷ [] }) key)
+add_grows m x key = record {
+  rx_packets = grown_number (most key 0 m.notes) _ _ _ _ _ (total_rx_packets key m.adds) (total_rx_packets key (m.adds ++ x ∷ [])) (added_snoc key 0 m.adds x);
+  rx_bytes = grown_number (most key 1 m.notes) _ _ _ _ _ (total_rx_bytes key m.adds) (total_rx_bytes key (m.adds ++ x ∷ [])) (added_snoc key 1 m.adds x);
+  tx_packets = grown_number (most key 2 m.notes) _ _ _ _ _ (total_tx_packets key m.adds) (total_tx_packets key (m.adds ++ x ∷ [])) (added_snoc key 2 m.adds x);
+  tx_bytes = grown_number (most key 3 m.notes) _ _ _ _ _ (total_tx_bytes key m.adds) (total_tx_bytes key (m.adds ++ x ∷ [])) (added_snoc key 3 m.adds x);
+}
+
+same_number : (a b : ℕ) → a ≡ b → a ≤ b
+same_number a b e = omega (arith, e)
+
+pub read_grows : (all key : ℕ) (m m' : View) (a : Amount) → ReadsKey all key m a m' → (k : ℕ) → IsAtMost (view_known m k) (view_known m' k)
+read_grows all key m m' a r k = dite (ℕ_discrete k key)
+    (λ (e : k ≡ key). subst (λ (x : ℕ). IsAtMost (view_known m x) (view_known m' x)) (sym e) (subst (IsAtMost (view_known m key)) (knows_answer all key m m' a r) (knew_less all key m a r.numbers)))
+    (λ ne. let adds : m.adds ≡ m'.adds = ap (λ (x : View). x.adds) (sym r.view) in record {
+      rx_packets = same_number _ _ (λ i. max (sym (r.others k 0 ne) i) (total_of (map shown (adds i)) k).rx_packets);
+      rx_bytes = same_number _ _ (λ i. max (sym (r.others k 1 ne) i) (total_of (map shown (adds i)) k).rx_bytes);
+      tx_packets = same_number _ _ (λ i. max (sym (r.others k 2 ne) i) (total_of (map shown (adds i)) k).tx_packets);
+      tx_bytes = same_number _ _ (λ i. max (sym (r.others k 3 ne) i) (total_of (map shown (adds i)) k).tx_bytes);
+    })
+
+first_of_three : (a b c : ℕ) → a ≤ max (max a b) c
+first_of_three a b c = omega arith
+
+second_of_three : (a b c : ℕ) → b ≤ max (max a b) c
+second_of_three a b c = omega arith
+
+pub greater_first : (a b c d : Amount) → d ≡ greater (greater a b) c → IsAtMost a d
+greater_first a b c d e = subst (IsAtMost a) (sym e) record {
+  rx_packets = first_of_three a.rx_packets b.rx_packets c.rx_packets;
+  rx_bytes = first_of_three a.rx_bytes b.rx_bytes c.rx_bytes;
+  tx_packets = first_of_three a.tx_packets b.tx_packets c.tx_packets;
+  tx_bytes = first_of_three a.tx_bytes b.tx_bytes c.tx_bytes;
+}
+
+pub greater_second : (a b c d : Amount) → d ≡ greater (greater a b) c → IsAtMost b d
+greater_second a b c d e = subst (IsAtMost b) (sym e) record {
+  rx_packets = second_of_three a.rx_packets b.rx_packets c.rx_packets;
+  rx_bytes = second_of_three a.rx_bytes b.rx_bytes c.rx_bytes;
+  tx_packets = second_of_three a.tx_packets b.tx_packets c.tx_packets;
+  tx_bytes = second_of_three a.tx_bytes b.tx_bytes c.tx_bytes;
+}
+
+-- ---- a seat has as many calls as its view
+
+pub calls_here : (l m l' m' n : ℕ) → l ≡ l' → m ≡ m' → l + m ≡ n → l' + m' ≡ n
+calls_here l m l' m' n e f g = omega (arith, e, f, g)
+
+pub calls_begun : (l m l' m' n : ℕ) → l ≡ l' → m ≡ m' → (l - 1) + (m + 1) ≡ n → (l' - 1) + (m' + 1) ≡ n
+calls_begun l m l' m' n e f g = omega (arith, e, f, g)
+
+pub left_here : (n l l' l'' : ℕ) → n ≤ l'' → l ≡ l' → l ≡ l'' → n ≤ l'
+left_here n l l' l'' h e f = omega (arith, h, e, f)

@@ -1,4 +1,5 @@
 pub mod Spots
+pub mod LandingLemmas
 pub mod Keeps
 pub mod Lookups
 pub mod SeatLemmas

@@ -1,5 +1,5 @@
 -- Each step of a read keeps the rule, and a look at the rule tells what a seat at rest may rely on.
-use Rattle.std.proofs.Common.{◌≡◌, ℕ, suc, ◌+◌, ◌*◌, ◌^◌, ◌≤◌, ◌<◌, List, [], ◌∷◌, ◌++◌, length, get_or, Bool, true, false, ◌&&◌, nat_eq, sum_by, refl, sym, ap, ◌∙◌, subst, ⊎_elim, arith, lt_of_not-le, ne_eqb}
+use Rattle.std.proofs.Common.{◌≡◌, ℕ, suc, ◌+◌, ◌*◌, ◌≤◌, ◌<◌, List, [], ◌∷◌, ◌++◌, length, get_or, Bool, true, false, ◌&&◌, nat_eq, sum_by, refl, sym, ap, ◌∙◌, subst, ⊎_elim, arith, lt_of_not-le, ne_eqb}
 use Rattle.std.specs.Prelude.{max}
 use mathlib.Core.Option.{some}
 use mathlib.Core.Logic.{dite}
@@ -18,6 +18,10 @@ use Rattle.total_rows.specs.Sums.{if_is, added, under_way, part, stands_at, note
 use Rattle.total_rows.specs.Rule.{busy, calls, Stands, Tells, Kept}
 use Rattle.total_rows.specs.Plays.{IsCalm, Seeking, Looked, Noted, Settled}
 use Rattle.total_rows.proofs.Spots.{more_decided, nowhere, in_sum, zero_sum}
+use Rattle.total_rows.specs.declared.plan.Addition.{Addition}
+use Rattle.total_rows.specs.Seats.{IsOneToOne}
+use Rattle.total_rows.specs.Shown.{places_of}
+use Rattle.total_rows.proofs.LandingLemmas.{one_to_one}
 use Rattle.total_rows.proofs.Keeps.{unmoved, nothing, sole_has_all}
 
 abbrev U : Type 0
@@ -44,6 +48,12 @@ part_has a u = omega arith
 
 own_within : (a b n : ℕ) → max a b ≤ n → n ≡ b → max a b ≡ b
 own_within a b n h e = omega (arith, h, e)
+
+few_calls : (w v m all : ℕ) → w ≡ v → v ≤ m → m ≡ all → w ≤ all
+few_calls w v m all e h f = omega arith
+
+pub few_adds : (n b m : ℕ) → n + b ≤ m → n ≤ m
+few_adds n b m h = omega arith
 
 -- ---- stages that weigh nothing
 
@@ -94,6 +104,17 @@ module _ (z : Plan) where
       (most_within key c (sum_by (part key c) s.views) v.notes (λ i x e. r.each_note id v at i x e key c))
       (at_most_then (added key c v.adds) (part key c v) (sum_by (part key c) s.views) (part_has (added key c v.adds) (under_way key c v.stage)) (in_sum (part key c) s.views id v at))
 
+  -- what the rule says of a seat that is in no row
+  pub settled_here : (s : St) (r : Kept z s) (id : ℕ) (v w : View) → get_elem? s.views id ≡ some v → ((key c : ℕ) → under_way key c v.stage ≡ 0) → calls w ≡ calls v → w.adds ≡ v.adds → w.notes ≡ v.notes → length v.adds ≤ w.made → Settled z.calls w
+  settled_here s r id v w at quiet same adds notes made = record {
+    within = few_calls (calls w) (calls v) (sum_by calls s.views) z.calls same (in_sum calls s.views id v at) r.budget;
+    few = r.small;
+    counted = subst (λ (l : List Addition). length l ≤ w.made) (sym adds) made;
+    one_to_one = subst (λ (l : List Addition). IsOneToOne (places_of l)) (sym adds) (one_to_one R s.words v.adds (r.each_seat id v at).adds);
+    sole = λ all key c. subst (λ (x : List Note × List Addition). max (most key c x.0) (added key c x.1) ≡ added key c x.1) (λ i. (sym notes i, sym adds i))
+        (own_within (most key c v.notes) (added key c v.adds) (sum_by (part key c) s.views) (known_within s r id v at key c) (sole_has_all z s r id v at (sym same ∙ all) key c (quiet key c)));
+  }
+
   -- a step that changes the stage alone, from and to one that weighs nothing
   restaged : (s : St) (r : Kept z s) (i id : ℕ) (cs : List (ℕ × U)) (v : View) (next : Stage) → get_elem? s.views id ≡ some v → IsQuiet v.stage → IsQuiet next → Stands R s.words next
       → Kept z (stepped s i (get_or s.words i 0) id cs (record v { stage = next }) keeps)
@@ -117,16 +138,17 @@ module _ (z : Plan) where
   no_row_left words key turn all last u a = (all u (let h = a.inside in omega arith)).1 a.is
 
   pub looks : (slots id : ℕ) (me : M) (key turn : ℕ) → turn < R → Seeking R key turn me.0
-      → Allows (Kept z) slots id me (spot R key turn) (λ n. n) (λ n m. Looked R key turn me.0 n m.0 × (m.1 ≡ me.1))
+      → Allows (Kept z) slots id me (spot R key turn) (λ n. n) (λ n m. Looked R z.calls key turn me.0 n m.0 × (m.1 ≡ me.1))
   looks slots id me key turn inside t s r _ at _ = let v : View = me.0 in let sits = r.each_seat id v at in let n : ℕ = get_or s.words (spot R key turn) 0 in
       let all : AllDecided R s.words key turn = t.met s.words sits.stands in let quiet = calm_is_quiet v.stage t.calm in
+      let settled = settled_here s r id v (record v { stage = Idle }) at quiet.way refl refl refl (few_adds (length v.adds) (busy v.stage) v.made sits.counted) in
       dite (ℕ_discrete n (code key))
       (λ (hit : n ≡ code key). (
         record v { stage = Reading key turn },
         keeps,
         tt,
         restaged s r (spot R key turn) id me.1 v (Reading key turn) at quiet (reading_is_quiet key turn) record { inside = inside; is = hit; earlier = all },
-        (record { row = λ _. refl; on = λ _ ne _. absurd (ne hit); none = λ ne _. absurd (ne hit) }, refl),
+        (record { row = λ _. refl; on = λ _ ne _. absurd (ne hit); none = λ ne _. absurd (ne hit); settled = settled }, refl),
       ))
       (λ other. dite (ℕ_discrete n 0)
       (λ (free : n ≡ 0). (
@@ -134,7 +156,7 @@ module _ (z : Plan) where
         keeps,
         tt,
         restaged s r (spot R key turn) id me.1 v Idle at quiet idle_is_quiet tt,
-        (record { row = λ e. absurd (other e); on = λ ne _ _. absurd (ne free); none = λ _ _. (refl, unknown s r id v at key (nowhere R s.words key turn all free)) }, refl),
+        (record { row = λ e. absurd (other e); on = λ ne _ _. absurd (ne free); none = λ _ _. (refl, unknown s r id v at key (nowhere R s.words key turn all free)); settled = settled }, refl),
       ))
       (λ taken. let more = more_decided R s.words key turn all (taken, other) in
       dite (dec_le R (turn + 1))
@@ -143,14 +165,14 @@ module _ (z : Plan) where
         keeps,
         tt,
         restaged s r (spot R key turn) id me.1 v Idle at quiet idle_is_quiet tt,
-        (record { row = λ e. absurd (other e); on = λ _ _ l. absurd (let x : ⊥ = omega (arith, l, last) in x); none = λ _ _. (refl, unknown s r id v at key (no_row_left s.words key (turn + 1) more last)) }, refl),
+        (record { row = λ e. absurd (other e); on = λ _ _ l. absurd (let x : ⊥ = omega (arith, l, last) in x); none = λ _ _. (refl, unknown s r id v at key (no_row_left s.words key (turn + 1) more last)); settled = settled }, refl),
       ))
       (λ before. let h = lt_of_not-le before in (
         record v { stage = Looking key (turn + 1) },
         keeps,
         tt,
         restaged s r (spot R key turn) id me.1 v (Looking key (turn + 1)) at quiet (looking_is_quiet key (turn + 1)) (omega arith, more),
-        (record { row = λ e. absurd (other e); on = λ _ _ _. refl; none = λ _ x. absurd (⊎_elim taken before x) }, refl),
+        (record { row = λ e. absurd (other e); on = λ _ _ _. refl; none = λ _ x. absurd (⊎_elim taken before x); settled = settled }, refl),
       ))))
 
   -- a note of a number that is the sum
@@ -197,34 +219,25 @@ module _ (z : Plan) where
       same_le : (a b : ℕ) → a ≡ b → b ≤ a
       same_le a b e = omega arith
 
-  few_calls : (n m all : ℕ) → n ≤ m → m ≡ all → all ≤ 2 ^ 28 → n ≤ 2 ^ 28
-  few_calls n m all h e l = omega arith
-
   pub settles : (slots id i : ℕ) (me : M) → me.0.stage ≡ Idle → Allows (Kept z) slots id me i (λ n. n) (λ n m. (m ≡ me) × Settled z.calls me.0)
   settles slots id i me rests s r _ at _ = let v : View = me.0 in let sits = r.each_seat id v at in (
     v,
     keeps,
     tt,
     unmoved z s r i id me.1 v v at sits record { calls_stay = refl; parts = λ key c. omega arith; rows = λ key. omega arith; notes = λ j n e. r.each_note id v at j n e } (λ key c. refl),
-    (
-      refl,
-      record {
-        few = few_calls (calls v) (sum_by calls s.views) z.calls (in_sum calls s.views id v at) r.budget r.small;
-        sole = λ all key c. own_within (most key c v.notes) (added key c v.adds) (sum_by (part key c) s.views) (known_within s r id v at key c) (sole_has_all z s r id v at all key c (ap (under_way key c) rests));
-      },
-    ),
+    (refl, settled_here s r id v v at (λ key c. ap (under_way key c) rests) refl refl refl (few_adds (length v.adds) (busy v.stage) v.made sits.counted)),
   )
 
-  pub looks_at : (slots id : ℕ) (me : M) (i rows' key key' turn turn' : ℕ) → turn < R → Seeking R key turn me.0 → i ≡ spot R key turn → rows' ≡ R → key' ≡ key → turn' ≡ turn
-      → Allows (Kept z) slots id me i (λ n. n) (λ n m. Looked rows' key' turn' me.0 n m.0 × (m.1 ≡ me.1))
-  looks_at slots id me i rows' key key' turn turn' inside t place a b c = subst (λ (x : ℕ × ℕ × ℕ × ℕ). Allows (Kept z) slots id me x.0 (λ n. n) (λ n m. Looked x.1 x.2 x.3 me.0 n m.0 × (m.1 ≡ me.1)))
-      (λ k. (sym place k, sym a k, sym b k, sym c k)) (looks slots id me key turn inside t)
+  pub looks_at : (slots id : ℕ) (me : M) (i rows' all' key key' turn turn' : ℕ) → turn < R → Seeking R key turn me.0 → i ≡ spot R key turn → rows' ≡ R → all' ≡ z.calls → key' ≡ key → turn' ≡ turn
+      → Allows (Kept z) slots id me i (λ n. n) (λ n m. Looked rows' all' key' turn' me.0 n m.0 × (m.1 ≡ me.1))
+  looks_at slots id me i rows' all' key key' turn turn' inside t place a d b c = subst (λ (x : ℕ × ℕ × ℕ × ℕ × ℕ). Allows (Kept z) slots id me x.0 (λ n. n) (λ n m. Looked x.1 x.2 x.3 x.4 me.0 n m.0 × (m.1 ≡ me.1)))
+      (λ k. (sym place k, sym a k, sym d k, sym b k, sym c k)) (looks slots id me key turn inside t)
 
-  pub reads_at : (slots id : ℕ) (me : M) (i all' key key' turn c c' : ℕ) (next next' : Stage) → me.0.stage ≡ Reading key turn → c < 4 → IsQuiet next → ((words : List ℕ) → At R words key turn → Stands R words next)
-      → i ≡ R + 4 * spot R key turn + c → all' ≡ z.calls → key' ≡ key → c' ≡ c → next' ≡ next
+  pub reads_at : (slots id : ℕ) (me : M) (i row all' key key' turn c c' : ℕ) (next next' : Stage) → me.0.stage ≡ Reading key turn → c < 4 → IsQuiet next → ((words : List ℕ) → At R words key turn → Stands R words next)
+      → row ≡ spot R key turn → i ≡ R + 4 * row + c → all' ≡ z.calls → key' ≡ key → c' ≡ c → next' ≡ next
       → Allows (Kept z) slots id me i (λ n. n) (λ n m. Noted all' key' c' next' me.0 n m.0 × (m.1 ≡ me.1))
-  reads_at slots id me i all' key key' turn c c' next next' is low quiet stands place f a b d = subst (λ (x : ℕ × ℕ × ℕ × ℕ × Stage). Allows (Kept z) slots id me x.0 (λ n. n) (λ n m. Noted x.1 x.2 x.3 x.4 me.0 n m.0 × (m.1 ≡ me.1)))
-      (λ k. (sym place k, sym f k, sym a k, sym b k, sym d k)) (reads slots id me key turn c next is low quiet stands)
+  reads_at slots id me i row all' key key' turn c c' next next' is low quiet stands here place f a b d = subst (λ (x : ℕ × ℕ × ℕ × ℕ × Stage). Allows (Kept z) slots id me x.0 (λ n. n) (λ n m. Noted x.1 x.2 x.3 x.4 me.0 n m.0 × (m.1 ≡ me.1)))
+      (λ k. (sym (place ∙ ap (λ (p : ℕ). R + 4 * p + c) here) k, sym f k, sym a k, sym b k, sym d k)) (reads slots id me key turn c next is low quiet stands)
 
   pub settles_at : (slots id i all' : ℕ) (me : M) → me.0.stage ≡ Idle → all' ≡ z.calls → Allows (Kept z) slots id me i (λ n. n) (λ n m. (m ≡ me) × Settled all' me.0)
   settles_at slots id i all' me rests e = subst (λ (x : ℕ). Allows (Kept z) slots id me i (λ n. n) (λ n m. (m ≡ me) × Settled x me.0)) (sym e) (settles slots id i me rests)

@@ -1,29 +1,14 @@
 -- Adds as the table keeps them, and as contracts see them.
-use Rattle.std.proofs.Common.{◌≡◌, ℕ, ◌+◌, ◌*◌, List, [], ◌∷◌, Bool, true, false, ◌&&◌, nat_eq, cond, map, refl, sym, ap, ◌∙◌, subst, arith}
+use Rattle.std.proofs.Common.{◌≡◌, ℕ, ◌+◌, ◌*◌, List, [], ◌∷◌, Bool, true, false, ◌&&◌, nat_eq, map, refl, arith}
 use Rattle.acct_base.specs.declared.amount.Amount.{Amount}
 use Rattle.acct_base.specs.declared.packet.Dir.{Dir}
 use Rattle.acct_base.specs.declared.packet.Dir.TheVariants.{Ingress, Egress}
 use Rattle.acct_base.specs.Amounts.{amount_in, amount_if}
-use Rattle.acct_base.specs.Receipts.{Add}
 use Rattle.acct_base.specs.Sums.{added as total_of}
 use Rattle.total_rows.specs.declared.plan.Addition.{Addition}
-use Rattle.total_rows.specs.Sums.{side, if_is, added, keys_landed}
-use Rattle.total_rows.specs.Plays.{IsFullOf}
+use Rattle.total_rows.specs.Sums.{side, if_is, added}
 use Rattle.total_rows.specs.Shown.{shown}
-use Rattle.total_rows.specs.Seats.{landed_keys, IsFullFor}
-use Rattle.acct_base.specs.Distinct.{mem, distinct}
-
-keys_same : (l : List Addition) → landed_keys (map shown l) ≡ keys_landed l
-keys_same [] = refl
-keys_same (a ∷ l) = ap (λ (keys : List ℕ). cond a.landed (a.job.key ∷ keys) keys) (keys_same l)
-
-pub full_shown : (rows key : ℕ) (l : List Addition) (adds : List Add) → map shown l ≡ adds → IsFullOf rows key l → IsFullFor rows key adds
-full_shown rows key l adds e h = let same : keys_landed l ≡ landed_keys adds = sym (keys_same l) ∙ ap landed_keys e in
-    subst (λ (keys : List ℕ). (distinct keys ≡ rows) × (mem key keys ≡ false)) same h
-
-pub full_kept : (rows key : ℕ) (l : List Addition) (adds : List Add) → map shown l ≡ adds → IsFullFor rows key adds → IsFullOf rows key l
-full_kept rows key l adds e h = let same : keys_landed l ≡ landed_keys adds = sym (keys_same l) ∙ ap landed_keys e in
-    subst (λ (keys : List ℕ). (distinct keys ≡ rows) × (mem key keys ≡ false)) (sym same) h
+use Rattle.acct_base.specs.Landings.{is_row}
 
 pub sole_calls : (l m l' m' l'' m'' n : ℕ) → l ≡ l' → m ≡ m' → l ≡ l'' → m ≡ m'' → l'' + m'' ≡ n → l' + m' ≡ n
 sole_calls l m l' m' l'' m'' n e f g h i = omega (arith, e, f, g, h, i)
@@ -52,19 +37,19 @@ fourth_number false d p n = refl
 
 pub total_rx_packets : (key : ℕ) (l : List Addition) → (total_of (map shown l) key).rx_packets ≡ added key 0 l
 total_rx_packets key [] = refl
-total_rx_packets key (a ∷ l) = λ i. first_number (a.landed && nat_eq a.job.key key) a.job.dir a.job.packets a.job.bytes i + total_rx_packets key l i
+total_rx_packets key (a ∷ l) = λ i. first_number (is_row a.landed && nat_eq a.job.key key) a.job.dir a.job.packets a.job.bytes i + total_rx_packets key l i
 
 pub total_rx_bytes : (key : ℕ) (l : List Addition) → (total_of (map shown l) key).rx_bytes ≡ added key 1 l
 total_rx_bytes key [] = refl
-total_rx_bytes key (a ∷ l) = λ i. second_number (a.landed && nat_eq a.job.key key) a.job.dir a.job.packets a.job.bytes i + total_rx_bytes key l i
+total_rx_bytes key (a ∷ l) = λ i. second_number (is_row a.landed && nat_eq a.job.key key) a.job.dir a.job.packets a.job.bytes i + total_rx_bytes key l i
 
 pub total_tx_packets : (key : ℕ) (l : List Addition) → (total_of (map shown l) key).tx_packets ≡ added key 2 l
 total_tx_packets key [] = refl
-total_tx_packets key (a ∷ l) = λ i. third_number (a.landed && nat_eq a.job.key key) a.job.dir a.job.packets a.job.bytes i + total_tx_packets key l i
+total_tx_packets key (a ∷ l) = λ i. third_number (is_row a.landed && nat_eq a.job.key key) a.job.dir a.job.packets a.job.bytes i + total_tx_packets key l i
 
 pub total_tx_bytes : (key : ℕ) (l : List Addition) → (total_of (map shown l) key).tx_bytes ≡ added key 3 l
 total_tx_bytes key [] = refl
-total_tx_bytes key (a ∷ l) = λ i. fourth_number (a.landed && nat_eq a.job.key key) a.job.dir a.job.packets a.job.bytes i + total_tx_bytes key l i
+total_tx_bytes key (a ∷ l) = λ i. fourth_number (is_row a.landed && nat_eq a.job.key key) a.job.dir a.job.packets a.job.bytes i + total_tx_bytes key l i
 
 abbrev pub amount_with : ℕ → ℕ → ℕ → ℕ → Amount
 amount_with a b c d = record { rx_packets = a; rx_bytes = b; tx_packets = c; tx_bytes = d }

@@ -1,10 +1,12 @@
 -- Places, and sums over seats.
-use Rattle.std.proofs.Common.{◌≡◌, ◌≢◌, ℕ, zero, suc, ◌+◌, ◌*◌, ◌≤◌, ◌<◌, List, [], ◌∷◌, length, get_or, set, Bool, true, false, sum_by, refl, sym, ap, ◌∙◌, subst, arith, lt_of_not-le}
+use Rattle.std.proofs.Common.{◌≡◌, ◌≢◌, ℕ, zero, suc, ◌+◌, ◌*◌, ◌≤◌, ◌<◌, List, [], ◌∷◌, length, get_or, set, sum_by, refl, sym, ap, ◌∙◌, subst, arith, lt_of_not-le}
 use Rattle.std.proofs.lemmas.List.Sums.{sum_by-set, sum_by-cons}
 use mathlib.Core.Logic.{dite}
 use mathlib.Core.Option.{some, some-injective, some-ne-none}
 use native.Mathlib.Decide.{dec_le}
 use lib.ListN.{get_elem?}
+use Rattle.acct_base.specs.declared.charge.Landed.{Landed}
+use Rattle.acct_base.specs.declared.charge.Landed.TheVariants.{Row as InRow, Full}
 use Rattle.total_rows.specs.declared.plan.Addition.{Addition}
 use Rattle.total_rows.specs.declared.plan.View.{View}
 use Rattle.total_rows.specs.declared.plan.Stage.{Stage}
@@ -41,9 +43,9 @@ module _ (rows : ℕ) (words later : List ℕ) (stays : Stays rows words later) 
   pub owned_stays : (p : ℕ) → Owned rows words p → Owned rows later p
   owned_stays p o = record { key = o.key; turn = o.turn; at = at_stays o.key o.turn o.at; here = o.here }
 
-  pub add_stays : (a : Addition) (b : Bool) → IsAdd rows words a b → IsAdd rows later a b
-  add_stays a true h = (h.0, (h.1.0, at_stays a.job.key h.1.0 h.1.1))
-  add_stays a false h = (h.0, all_stay a.job.key rows (omega arith) h.1)
+  pub add_stays : (a : Addition) (b : Landed) → IsAdd rows words a b → IsAdd rows later a b
+  add_stays a (InRow row) h = (h.0, (h.1.0, at_stays a.job.key h.1.0 h.1.1, h.1.2))
+  add_stays a Full h = (h.0, all_stay a.job.key rows (omega arith) h.1)
 
   stands_on : (st : Stage) → Stands rows words st → Stands rows later st
   stands_on Idle h = tt

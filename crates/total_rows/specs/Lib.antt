@@ -1,9 +1,9 @@
 pub mod Rows
 pub mod Sums
 pub mod Rule
-pub mod Plays
-pub mod Shown
 pub mod Seats
+pub mod Shown
+pub mod Plays
 pub mod SeatInside
 pub mod TotalsInside
 pub mod SeatSteps

@@ -1,16 +1,18 @@
 -- What the parts of a read leave of a seat's view.
-use Rattle.std.specs.Prelude.{◌≡◌, ◌≢◌, ℕ, ◌≤◌, ◌<◌, List, [], ◌∷◌, ◌++◌, Option, None, Some}
+use Rattle.std.specs.Prelude.{◌≡◌, ◌≢◌, ℕ, ◌≤◌, List, [], ◌∷◌, ◌++◌, Option, None, Some}
 use Rattle.acct_base.specs.declared.amount.Amount.{Amount}
 use Rattle.total_rows.specs.declared.plan.Note.{Note}
 use Rattle.total_rows.specs.declared.plan.Note.TheVariants.{Number}
 use Rattle.total_rows.specs.declared.plan.View.{View}
 use Rattle.total_rows.specs.declared.plan.Stage.TheVariants.{Idle, Reading}
+use Rattle.total_rows.specs.declared.turns.Try.{Try}
+use Rattle.total_rows.specs.Rows.{IsTry}
 use Rattle.total_rows.specs.Sums.{added, knows, most}
 use Rattle.total_rows.specs.Rule.{calls}
 
 -- A look-up stands at the key's row, or found that nothing was ever added to the key.
-abbrev pub Finds : ℕ → ℕ → View → Option ℕ → View → Type 0
-Finds rows key m (Some turn) m' = (turn < rows) × (m' ≡ record m { stage = Reading key turn })
+abbrev pub Finds : ℕ → ℕ → View → Option Try → View → Type 0
+Finds rows key m (Some at) m' = IsTry rows key at × (m' ≡ record m { stage = Reading key at.turn })
 Finds rows key m None m' = (m' ≡ m) × ((c : ℕ) → knows key c m ≡ 0)
 
 -- The notes of a row's four numbers.

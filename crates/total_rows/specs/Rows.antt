@@ -1,6 +1,7 @@
 -- Where a key stands. The key words are the first words of the table.
 use Rattle.std.specs.Prelude.{◌≡◌, ◌≢◌, ℕ, ◌+◌, ◌<◌, List, slice_index}
 use Rattle.row_probe.specs.Places.{place}
+use Rattle.total_rows.specs.declared.turns.Try.{Try}
 
 -- The word of a key, which is not 0.
 abbrev pub code : ℕ → ℕ
@@ -9,6 +10,12 @@ code key = key + 1
 -- The row that is tried for a key at a turn.
 abbrev pub spot : ℕ → ℕ → ℕ → ℕ
 spot rows key turn = place (code key) 1 turn rows
+
+-- A turn of the search for a key's row, and the row that is tried at it.
+pub record IsTry (rows key : ℕ) (at : Try) : Type 0 where
+  pub turn : at.turn < rows
+  pub row : at.row ≡ spot rows key at.turn
+  pub inside : at.row < rows
 
 -- The row that is tried at this turn belongs to another key.
 abbrev pub Decided : ℕ → List ℕ → ℕ → ℕ → Type 0

@@ -1,9 +1,11 @@
 -- The rule of the table: each number of a row is the sum, over all seats, of what was added to its key.
 -- Word p is the key of row p, and word rows + 4 * p + c its number c.
-use Rattle.std.specs.Prelude.{◌≡◌, ◌≢◌, ℕ, ◌+◌, ◌*◌, ◌^◌, ◌≤◌, ◌<◌, Bool, true, false, List, [], length, slice_index, sum_by}
+use Rattle.std.specs.Prelude.{◌≡◌, ◌≢◌, ℕ, ◌+◌, ◌*◌, ◌^◌, ◌≤◌, ◌<◌, List, [], length, slice_index, sum_by}
 use mathlib.Core.Option.{some}
 use lib.ListN.{get_elem?}
 use Rattle.atomic_table.specs.Table.{State}
+use Rattle.acct_base.specs.declared.charge.Landed.{Landed}
+use Rattle.acct_base.specs.declared.charge.Landed.TheVariants.{Row as InRow, Full}
 use Rattle.total_rows.specs.declared.plan.Plan.{Plan}
 use Rattle.total_rows.specs.declared.plan.Job.{Job}
 use Rattle.total_rows.specs.declared.plan.Addition.{Addition}
@@ -44,9 +46,9 @@ module _ (rows : ℕ) (words : List ℕ) where
   Stands (Reading key turn) = At rows words key turn
 
   -- A landed add has its row; for another, all rows belong to other keys.
-  abbrev pub IsAdd : Addition → Bool → Type 0
-  IsAdd a true = IsJob a.job × ((turn : ℕ) × At rows words a.job.key turn)
-  IsAdd a false = IsJob a.job × AllDecided rows words a.job.key rows
+  abbrev pub IsAdd : Addition → Landed → Type 0
+  IsAdd a (InRow row) = IsJob a.job × ((turn : ℕ) × At rows words a.job.key turn × (spot rows a.job.key turn ≡ row))
+  IsAdd a Full = IsJob a.job × AllDecided rows words a.job.key rows
 
   pub record Sits (v : View) : Type 0 where
     pub stands : Stands v.stage

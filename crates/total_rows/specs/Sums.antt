@@ -2,6 +2,7 @@
 use Rattle.std.specs.Prelude.{ℕ, ◌+◌, ◌*◌, max, Bool, ◌&&◌, nat_eq, cond, List, [], ◌∷◌}
 use Rattle.acct_base.specs.declared.packet.Dir.{Dir}
 use Rattle.acct_base.specs.declared.packet.Dir.TheVariants.{Ingress, Egress}
+use Rattle.acct_base.specs.Landings.{is_row}
 use Rattle.total_rows.specs.declared.plan.Job.{Job}
 use Rattle.total_rows.specs.declared.plan.Addition.{Addition}
 use Rattle.total_rows.specs.declared.plan.Note.{Note}
@@ -28,7 +29,7 @@ bytes_in j c = if_is (nat_eq c (2 * side j.dir + 1)) j.bytes
 -- What landed adds bring to a number of a key.
 abbrev pub added : ℕ → ℕ → List Addition → ℕ
 added key c [] = 0
-added key c (a ∷ rest) = if_is (a.landed && nat_eq a.job.key key) (packets_in a.job c + bytes_in a.job c) + added key c rest
+added key c (a ∷ rest) = if_is (is_row a.landed && nat_eq a.job.key key) (packets_in a.job c + bytes_in a.job c) + added key c rest
 
 -- What is in the row of an add under way: its packets, once they are added.
 abbrev pub under_way : ℕ → ℕ → Stage → ℕ
@@ -46,7 +47,7 @@ part key c v = added key c v.adds + under_way key c v.stage
 -- How many of these adds landed on a key.
 abbrev pub landings : ℕ → List Addition → ℕ
 landings key [] = 0
-landings key (a ∷ rest) = if_is (a.landed && nat_eq a.job.key key) 1 + landings key rest
+landings key (a ∷ rest) = if_is (is_row a.landed && nat_eq a.job.key key) 1 + landings key rest
 
 -- A seat stands at a key's row, to add to it.
 abbrev pub stands_at : ℕ → Stage → ℕ
@@ -73,8 +74,3 @@ most key c (n ∷ rest) = max (noted key c n) (most key c rest)
 -- What a seat knows of a number of a key: the greatest that it noted, and at least the sum of its own landed adds.
 abbrev pub knows : ℕ → ℕ → View → ℕ
 knows key c v = max (most key c v.notes) (added key c v.adds)
-
--- The keys of the additions that landed, in order.
-abbrev pub keys_landed : List Addition → List ℕ
-keys_landed [] = []
-keys_landed (a ∷ rest) = cond a.landed (a.job.key ∷ keys_landed rest) (keys_landed rest)

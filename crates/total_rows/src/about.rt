@@ -10,8 +10,7 @@ ghost use Rattle.total_rows.specs.declared.plan.Stage.TheVariants.{Idle};
 
 use std::marker::Brand;
 
-/// The plan of the table, the job or the key, the turn of its look-up or the number of its row, and the stage
-/// that comes next.
+/// The plan of the table, the job or the key, a turn, a row or a number of one, and the stage that comes next.
 pub trait About {
     ghost plan: { Plan };
 

@@ -1,11 +1,10 @@
 //! How totals end.
 
-ghost use Rattle.std.specs.Prelude.{◌≡◌, ◌+◌, ◌-◌, ◌*◌, ◌<◌, ◌≤◌, ◌++◌, ◌↔◌, [], ℕ, List, length, map, IsOk, IfOk, IfErr, vec_capacity, vec_len, slice_index};
+ghost use Rattle.std.specs.Prelude.{◌≡◌, ◌+◌, ◌*◌, ◌<◌, ◌≤◌, ◌++◌, ◌↔◌, [], IsOk, IfOk, IfErr, vec_capacity, vec_len, slice_index};
 ghost use Rattle.std.specs.Mem.Slots.{slots_items, slots_len, IsFull};
 ghost use Rattle.std.specs.List.Sorted.{IsPermutation, IsNonDecreasingBy};
 ghost use Rattle.acct_base.specs.Sums.{AreTotals};
-ghost use Rattle.acct_base.specs.declared.amount.Amount.{Amount as AmountOf};
-ghost use Rattle.total_rows.specs.Closed.{row_amount, row_pair, rows_below, AreKeys, key_of};
+ghost use Rattle.total_rows.specs.Closed.{row_pair, rows_below, AreKeys, key_of};
 ghost use Rattle.total_rows.specs.Seats.{IsSole};
 
 use crate::room::TotalRoom;
@@ -18,10 +17,13 @@ use std::alloc::Global;
 /// Totals that were not closed, since the seat has not all calls: some are at other seats. All comes back.
 #[derive(Drop)]
 pub struct TotalUnclosed {
+    /// The totals, as they were.
     pub totals: Totals,
+    /// The seat, as it was.
     pub seat: TotalSeat,
+    /// The room, as it was.
     pub room: TotalRoom,
-    /// How many calls the seat lacks.
+    /// How many calls the seat lacks, at least 1.
     pub missing: u64,
 }
 

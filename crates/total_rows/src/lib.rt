@@ -1,8 +1,8 @@
 //! Totals by uid or by interface: a table of rows that grows without a lock. Many seats add to it side by
 //! side, none waits for another, and no addition is lost.
 //!
-//! `specs/Seats` says what a seat is seen as: its adds, and what it knows of each key. `specs/Rule` is the
-//! rule that the words of the table keep between any two steps.
+//! `specs/Seats` says what a seat is seen as: its adds, where they landed, and what it knows of each key.
+//! `specs/Rule` is the rule that the words of the table keep between any two steps.
 #![tactic(auto)]
 
 mod about;
@@ -17,6 +17,7 @@ mod seat;
 mod seats;
 mod steps;
 mod totals;
+mod turns;
 
 pub use acct_base::Landed;
 pub use closing::TotalUnclosed;

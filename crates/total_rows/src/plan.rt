@@ -1,7 +1,7 @@
 //! What a seat at the table knows and does. Of the types below `Plan` and `Job` have values; the others are
 //! what the proofs see.
 
-use acct_base::Dir;
+use acct_base::{Dir, Landed};
 use atomic_table::TableRule;
 
 /// How many rows the table has, and how many adds its seats may make in all.
@@ -20,11 +20,11 @@ pub struct Job {
     pub bytes: u64,
 }
 
-/// An add that was made.
+/// An add that was made, and where it landed.
 #[derive(Clone, Copy)]
 pub struct Addition {
     pub job: Job,
-    pub landed: bool,
+    pub landed: Landed,
 }
 
 /// What a seat learned: a number of a key's row, or what another seat had added by then.

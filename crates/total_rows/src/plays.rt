@@ -1,18 +1,27 @@
 //! What each step on the table tells its seat.
 
-ghost use Rattle.total_rows.specs.Plays.{tried, half, whole, looked, read_number, settled, split_left, split_right, joined, spent};
+ghost use Rattle.total_rows.specs.Plays.{peeked, tried, half, whole, looked, read_number, settled, split_left, split_right, joined, spent};
 
 use crate::about::About;
 use crate::plan::View;
 use atomic_table::{Join, Play, Split};
 use std::marker::PhantomData;
 
-/// A compare-exchange of a row's key word: the row is the job's from now on, or belongs to some key.
-pub struct TryRow<B> {
+/// A load of a row's key word, on the way to the job's row.
+pub struct PeekAtRow<B> {
     about: PhantomData<B>,
 }
 
-impl<B: About> Play<(), View> for TryRow<B> {
+impl<B: About> Play<(), View> for PeekAtRow<B> {
+    ghost then = { peeked B.plan.rows B.plan.calls B.job B.number };
+}
+
+/// A compare-exchange of a row's key word: the row is the job's from now on, or belongs to some key.
+pub struct ClaimRow<B> {
+    about: PhantomData<B>,
+}
+
+impl<B: About> Play<(), View> for ClaimRow<B> {
     ghost then = { tried B.plan.rows B.plan.calls B.job B.number };
 }
 
@@ -25,22 +34,22 @@ impl<B: About> Play<(), View> for AddPackets<B> {
     ghost then = { half B.job B.number };
 }
 
-/// A fetch-add of bytes.
+/// A fetch-add of bytes. The add has landed in the row.
 pub struct AddBytes<B> {
     about: PhantomData<B>,
 }
 
 impl<B: About> Play<(), View> for AddBytes<B> {
-    ghost then = { whole B.job };
+    ghost then = { whole B.job B.number };
 }
 
-/// A load of a row's key word.
+/// A load of a row's key word, on the way to the row of a key that is read.
 pub struct LookAtRow<B> {
     about: PhantomData<B>,
 }
 
 impl<B: About> Play<(), View> for LookAtRow<B> {
-    ghost then = { looked B.plan.rows B.key B.number };
+    ghost then = { looked B.plan.rows B.plan.calls B.key B.number };
 }
 
 /// A load of a number.

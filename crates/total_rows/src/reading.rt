@@ -1,16 +1,18 @@
 //! The call that reads.
 
-ghost use Rattle.std.specs.Prelude.{◌≡◌, ◌≢◌, ◌+◌, ◌<◌, ◌≤◌, ◌++◌, ℕ, length};
+ghost use Rattle.std.specs.Prelude.{◌≡◌, ◌≢◌, ◌+◌, ◌<◌, ℕ};
 ghost use Rattle.acct_base.specs.Amounts.{IsAtMost};
 ghost use Rattle.acct_base.specs.Sums.{added as total_of};
-ghost use Rattle.total_rows.specs.Seats.{IsSole, known};
+ghost use Rattle.total_rows.specs.Seats.{IsSole, IsWithin, KnowsAll, KnowsItsOwn, known};
+ghost use Rattle.total_rows.specs.Plays.{Settled};
+ghost use Rattle.total_rows.specs.Rows.{IsTry};
 ghost use Rattle.total_rows.specs.SeatSteps.{IsSameSeat};
 ghost use Rattle.total_rows.specs.ReadSteps.{Finds, ReadsRow, ReadsKey};
 ghost use Rattle.total_rows.specs.declared.plan.Stage.TheVariants.{Idle, Reading};
 
 use crate::seat::{TableSeat, TotalSeat};
-use crate::steps::code_of;
 use crate::totals::Totals;
+use crate::turns::{Try, code_of};
 use acct_base::Amount;
 use std::marker::Brand;
 
@@ -21,10 +23,13 @@ impl Totals {
         requires from { seat.old.table ≡ self.now.table }
         ensures seat { seat.new ≡ record seat.old { notes = seat.new.notes } }
         ensures known { result ≡ known seat.new key }
-        ensures grows { IsAtMost (known seat.old key) result }
+        ensures least { IsAtMost (known seat.old key) result }
+        ensures grows { KnowsAll seat.old seat.new }
         ensures others { (other : ℕ) → other ≢ key → known seat.new other ≡ known seat.old other }
         // A seat that has all calls reads the sum of its own landed adds.
         ensures sole { IsSole self.now seat.old → result ≡ total_of seat.old.adds key }
+        ensures own { KnowsItsOwn self.now seat.new }
+        ensures within { IsWithin self.now seat.new }
     {
         self.read_key(&mut seat.seat, key)
     }
@@ -34,43 +39,46 @@ impl Totals {
         requires rests { seat.old.me.0.stage ≡ Idle }
         ensures seat { IsSameSeat seat.old seat.new }
         ensures read { ReadsKey self.now.calls key seat.old.me.0 result seat.new.me.0 }
+        ensures settled { Settled self.now.calls seat.old.me.0 }
     {
         match self.find(seat, key) {
             None => Amount::zero(),
-            Some(turn) => self.read_row(seat, key, turn),
+            Some(at) => self.read_row(seat, key, at),
         }
     }
 
     // Looks for the row of a key, and stands at it where there is one.
-    fn find(&self, seat: &mut TableSeat, key: u32) -> Option<u32>
+    fn find(&self, seat: &mut TableSeat, key: u32) -> Option<Try>
         requires from { seat.old.table_id ≡ self.now.table }
         requires rests { seat.old.me.0.stage ≡ Idle }
         ensures seat { IsSameSeat seat.old seat.new }
         ensures found { Finds self.now.rows key seat.old.me.0 result seat.new.me.0 }
+        ensures settled { Settled self.now.calls seat.old.me.0 }
     {
         let code = code_of(key);
-        for turn in 0..self.plan.rows {
-            let found = self.look_at_row::<Brand>(seat, key, turn);
+        let mut at = self.first_try(key);
+        loop {
+            let found = self.look_at_row::<Brand>(seat, key, at);
             if found == code {
-                return Some(turn);
+                return Some(at);
             }
-            if found == 0 || turn + 1 == self.plan.rows {
+            if found == 0 || at.turn + 1 == self.plan.rows {
                 return None;
             }
+            at = self.next_try(at);
         }
-        unreachable!()
     }
 
-    fn read_row(&self, seat: &mut TableSeat, key: u32, turn: u32) -> Amount
+    fn read_row(&self, seat: &mut TableSeat, key: u32, at: Try) -> Amount
         requires from { seat.old.table_id ≡ self.now.table }
-        requires row { (seat.old.me.0.stage ≡ Reading key turn) × (turn < self.now.rows) }
+        requires row { (seat.old.me.0.stage ≡ Reading key at.turn) × IsTry self.now.rows key at }
         ensures seat { IsSameSeat seat.old seat.new }
         ensures read { ReadsRow self.now.calls key seat.old.me.0 result seat.new.me.0 }
     {
-        let rx_packets = self.read_number::<Brand>(seat, key, turn, 0);
-        let rx_bytes = self.read_number::<Brand>(seat, key, turn, 1);
-        let tx_packets = self.read_number::<Brand>(seat, key, turn, 2);
-        let tx_bytes = self.read_number::<Brand>(seat, key, turn, 3);
+        let rx_packets = self.read_number::<Brand>(seat, key, at, 0);
+        let rx_bytes = self.read_number::<Brand>(seat, key, at, 1);
+        let tx_packets = self.read_number::<Brand>(seat, key, at, 2);
+        let tx_bytes = self.read_number::<Brand>(seat, key, at, 3);
         Amount {
             rx_packets,
             rx_bytes,

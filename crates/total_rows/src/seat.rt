@@ -1,6 +1,6 @@
 //! A seat at the totals.
 
-ghost use Rattle.std.specs.Prelude.{◌≡◌};
+ghost use Rattle.std.specs.Prelude.{◌≡◌, ◌+◌, ◌≤◌, ◌^◌};
 
 use crate::plan::View;
 use atomic_table::Seat;
@@ -9,7 +9,7 @@ use std::marker::Model;
 pub(crate) type TableSeat = Seat<(), View>;
 
 /// A seat of the totals, with calls of its own. It is seen as the calls that are left to it, those that it made,
-/// the list of its adds, and what it learned of other seats' adds.
+/// the list of its adds with the rows where they landed, and what it learned of other seats' adds.
 #[derive(Drop)]
 pub struct TotalSeat {
     pub(crate) seat: TableSeat,
@@ -32,14 +32,16 @@ impl Model for TotalSeat {
 impl TotalSeat {
     /// The calls that the seat may still make.
     pub fn left(&self) -> u64
-        ensures { result ≡ self.now.left }
+        ensures value { result ≡ self.now.left }
+        ensures few { self.now.left + self.now.made ≤ 2 ^ 28 }
     {
         self.left
     }
 
     /// The calls that the seat made.
     pub fn made(&self) -> u64
-        ensures { result ≡ self.now.made }
+        ensures value { result ≡ self.now.made }
+        ensures few { self.now.left + self.now.made ≤ 2 ^ 28 }
     {
         self.made
     }

@@ -1,9 +1,9 @@
 //! How seats are split and joined.
 
-ghost use Rattle.std.specs.Prelude.{◌≡◌, ◌+◌, ◌-◌, ◌≤◌, ◌++◌, ◌^◌, [], ℕ};
+ghost use Rattle.std.specs.Prelude.{◌≡◌, ◌+◌, ◌-◌, ◌≤◌, ◌++◌, [], ℕ};
 ghost use Rattle.acct_base.specs.Sums.{added as total_of};
 ghost use Rattle.total_rows.specs.Plays.{split_left, split_right, joined, Settled};
-ghost use Rattle.total_rows.specs.Seats.{IsSole, known, greater};
+ghost use Rattle.total_rows.specs.Seats.{IsWithin, IsOneToOne, KnowsAll, KnowsItsOwn, known, greater};
 ghost use Rattle.total_rows.specs.declared.plan.Stage.TheVariants.{Idle};
 
 use crate::about::About;
@@ -19,9 +19,12 @@ impl Totals {
         requires from { seat.old.table ≡ self.now.table }
         requires calls { n ≤ seat.old.left }
         ensures first { seat.new ≡ record seat.old { left = seat.old.left - n } }
-        ensures other { result ≡ record { table = seat.old.table; left = n; made = 0; adds = []; notes = result.notes } }
+        ensures other { result ≡ record { table = seat.old.table; left = n; made = 0; adds = []; places = []; notes = result.notes } }
         ensures knows { (key : ℕ) → known result key ≡ known seat.old key }
+        ensures own { KnowsItsOwn self.now seat.old × KnowsItsOwn self.now result }
+        ensures within { IsWithin self.now seat.old }
     {
+        self.settle::<Brand>(&mut seat.seat);
         let other = self.cut::<Brand>(&mut seat.seat, n);
         seat.left -= n;
         TotalSeat {
@@ -40,11 +43,16 @@ impl Totals {
           left = seat.old.left + other.left;
           made = seat.old.made + other.made;
           adds = seat.old.adds ++ other.adds;
+          places = seat.new.places;
           notes = seat.new.notes;
         } }
         ensures knows { (key : ℕ) → known seat.new key ≡ greater (greater (known seat.old key) (known other key)) (total_of seat.new.adds key) }
-        // A seat that has all calls knows just what it added.
-        ensures sole { IsSole self.now seat.new → (key : ℕ) → known seat.new key ≡ total_of seat.new.adds key }
+        ensures grows { KnowsAll seat.old seat.new }
+        ensures learns { KnowsAll other seat.new }
+        ensures places { seat.new.places ≡ seat.old.places ++ other.places }
+        ensures one_to_one { IsOneToOne seat.new.places }
+        ensures own { KnowsItsOwn self.now seat.new }
+        ensures within { IsWithin self.now seat.new }
     {
         let TotalSeat {
             seat: its,

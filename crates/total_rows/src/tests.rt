@@ -1,6 +1,11 @@
-//! The calls in order, and two threads that add to the same keys.
+//! The calls in order, two threads that add to the same keys, and callers whose contracts follow from those of
+//! the calls alone.
 
-ghost use Rattle.std.specs.Prelude.{◌≡◌};
+ghost use Rattle.std.specs.Prelude.{◌≡◌, ◌≤◌, ℕ, [], true};
+ghost use Rattle.acct_base.specs.Amounts.{IsAtMost};
+ghost use Rattle.acct_base.specs.Landings.{is_row};
+ghost use Rattle.acct_base.specs.Sums.{added};
+ghost use Rattle.total_rows.specs.Seats.{IsSole, KnowsAll, known, greater};
 
 use crate::{Landed, TotalRoom, TotalSeat, Totals};
 use acct_base::{Amount, Dir};
@@ -80,5 +85,108 @@ fn two_threads_lose_no_addition(rt: HostRuntime) -> Result<(), Fail> {
             assert!(rt; list.as_slice().iter().all(|total| total.1 == both));
         }
     }
+    Ok(())
+}
+
+// Three keys, and two rows.
+fn add_to_three(totals: &Totals, seat: &mut TotalSeat) -> (Landed, Landed, Landed)
+    requires from { seat.old.table ≡ totals.now.table }
+    requires sole { IsSole totals.now seat.old }
+    requires fresh { seat.old.adds ≡ [] }
+    requires left { 3 ≤ seat.old.left }
+    requires rows { totals.now.rows ≡ 2 }
+    ensures first { is_row result.0 ≡ true }
+    ensures second { is_row result.1 ≡ true }
+    ensures third { result.2 ≡ Landed.Full }
+    ensures from { seat.new.table ≡ totals.now.table }
+{
+    let first = totals.add(seat, 10, Dir::Ingress, 1, 60);
+    let second = totals.add(seat, 5, Dir::Egress, 2, 70);
+    let third = totals.add(seat, 7, Dir::Ingress, 1, 60);
+    (first, second, third)
+}
+
+#[test]
+fn a_third_key_finds_no_row_of_two(rt: HostRuntime) -> Result<(), Fail> {
+    let (totals, mut seat) = Totals::new(rt.alloc(), 2, 3)?;
+    let (_, _, third) = add_to_three(&totals, &mut seat);
+    assert_eq!(rt; third, Landed::Full);
+    let room = TotalRoom::new(rt.alloc(), 2)?;
+    let five = (5, Amount::counted(Dir::Egress, 2, 70));
+    let ten = (10, Amount::counted(Dir::Ingress, 1, 60));
+    match totals.close(seat, room) {
+        Err(_) => assert!(rt; false),
+        Ok(list) => assert_eq!(rt; list.as_slice(), [five, ten].as_slice()),
+    }
+    Ok(())
+}
+
+// One key twice, and another one.
+fn add_twice(totals: &Totals, seat: &mut TotalSeat) -> (Landed, Landed, Landed)
+    requires from { seat.old.table ≡ totals.now.table }
+    requires left { 3 ≤ seat.old.left }
+    ensures same { is_row result.0 ≡ true → is_row result.1 ≡ true → result.0 ≡ result.1 }
+    ensures other { is_row result.0 ≡ true → is_row result.2 ≡ true → result.0 ≡ result.2 → ⊥ }
+{
+    let first = totals.add(seat, 10, Dir::Ingress, 1, 60);
+    let second = totals.add(seat, 10, Dir::Egress, 2, 70);
+    let third = totals.add(seat, 7, Dir::Ingress, 1, 60);
+    (first, second, third)
+}
+
+#[test]
+fn a_key_keeps_its_row(rt: HostRuntime) -> Result<(), Fail> {
+    let (totals, mut seat) = Totals::new(rt.alloc(), 16, 3)?;
+    let (first, second, third) = add_twice(&totals, &mut seat);
+    assert!(rt; first != Landed::Full && first == second && first != third);
+    Ok(())
+}
+
+// Adds by a seat and by one that is split off it.
+fn add_by_both(totals: &Totals, seat: &mut TotalSeat) -> Amount
+    requires from { seat.old.table ≡ totals.now.table }
+    requires sole { IsSole totals.now seat.old }
+    requires left { 2 ≤ seat.old.left }
+    ensures from { seat.new.table ≡ totals.now.table }
+    ensures sole { IsSole totals.now seat.new }
+    ensures sum { result ≡ added seat.new.adds 10 }
+{
+    let mut other = totals.split(seat, 1);
+    totals.add(seat, 10, Dir::Ingress, 1, 60);
+    totals.add(&mut other, 10, Dir::Egress, 2, 70);
+    totals.join(seat, other);
+    totals.read(seat, 10)
+}
+
+// Each of two seats learns what the other knows.
+fn meet(totals: &Totals, one: &mut TotalSeat, two: &mut TotalSeat)
+    requires from { (one.old.table ≡ totals.now.table) × (two.old.table ≡ totals.now.table) }
+    ensures seats { (one.new ≡ record one.old { notes = one.new.notes }) × (two.new ≡ record two.old { notes = two.new.notes }) }
+    ensures one { (key : ℕ) → known one.new key ≡ greater (known one.old key) (known two.old key) }
+    ensures two { (key : ℕ) → known two.new key ≡ greater (known one.old key) (known two.old key) }
+    ensures grows { KnowsAll one.old one.new × KnowsAll two.old two.new }
+    ensures learns { (key : ℕ) → IsAtMost (added one.old.adds key) (known two.new key) }
+    ensures sole { IsSole totals.now one.old → (key : ℕ) → known two.new key ≡ added one.old.adds key }
+{
+    let note = totals.split(one, 0);
+    totals.join(two, note);
+    let back = totals.split(two, 0);
+    totals.join(one, back);
+}
+
+#[test]
+fn seats_add_up_and_meet(rt: HostRuntime) -> Result<(), Fail> {
+    let (totals, mut seat) = Totals::new(rt.alloc(), 1, 2)?;
+    let mut watcher = totals.split(&mut seat, 0);
+    let both = Amount {
+        rx_packets: 1,
+        rx_bytes: 60,
+        tx_packets: 2,
+        tx_bytes: 70,
+    };
+    assert_eq!(rt; add_by_both(&totals, &mut seat), both);
+    meet(&totals, &mut seat, &mut watcher);
+    assert_eq!(rt; totals.read(&mut watcher, 10), both);
+    assert_eq!(rt; (watcher.left(), watcher.made()), (0, 0));
     Ok(())
 }

@@ -1,7 +1,6 @@
 //! The table of totals.
 
-ghost use Rattle.std.specs.Prelude.{◌≡◌, ◌+◌, ◌*◌, ◌<◌, ◌≤◌, [], replicate, IfOk, ◌^◌};
-ghost use Rattle.total_rows.specs.TotalsInside.{IsTotals};
+ghost use Rattle.std.specs.Prelude.{◌≡◌, ◌*◌, ◌≤◌, [], replicate, IfOk, ◌^◌};
 
 use crate::plan::{Plan, Ruled, View};
 use crate::seat::TotalSeat;
@@ -45,7 +44,7 @@ impl Totals {
         requires rows { (1 ≤ rows) × (rows ≤ 65536) }
         requires calls { (1 ≤ calls) × (calls ≤ 2 ^ 28) }
         ensures totals { IfOk result (λ t. (t.0.rows ≡ rows) × (t.0.calls ≡ calls)) }
-        ensures seat { IfOk result (λ t. t.1 ≡ record { table = t.0.table; left = calls; made = 0; adds = []; notes = [] }) }
+        ensures seat { IfOk result (λ t. t.1 ≡ record { table = t.0.table; left = calls; made = 0; adds = []; places = []; notes = [] }) }
     {
         let plan = Plan { rows, calls };
         let words = zeros(alloc, 5 * rows as usize)?;

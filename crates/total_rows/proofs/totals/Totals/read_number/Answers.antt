@@ -14,4 +14,4 @@ stands_next : (rows key turn : ℕ) (next : Stage) → GoesOnReading key turn ne
 stands_next rows key turn next h words at = ⊎_elim (λ (e : next ≡ Reading key turn). subst (Stands rows words) (sym e) at) (λ (e : next ≡ Idle). subst (Stands rows words) (sym e) tt) h
 
 pub load-requires : goal.load-requires
-load-requires g c = (search rules, search rules, reads_at _ _ _ _ _ _ c.args.key _ c.args.turn c.args.number _ g.B.About.next _ (search rules) (search rules) (quiet_next c.args.key c.args.turn g.B.About.next c.requires.next) (stands_next _ c.args.key c.args.turn g.B.About.next c.requires.next) (search rules) (search rules) (search rules) (search rules) (search rules))
+load-requires g c = (search rules, search rules, reads_at _ _ _ _ _ c.args.at.row _ c.args.key _ c.args.at.turn c.args.number _ g.B.About.next _ (search rules) (search rules) (quiet_next c.args.key c.args.at.turn g.B.About.next c.requires.next) (stands_next _ c.args.key c.args.at.turn g.B.About.next c.requires.next) (search rules) (search rules) (search rules) (search rules) (search rules) (search rules))
