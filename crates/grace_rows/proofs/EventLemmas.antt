@@ -37,9 +37,9 @@ use Rattle.grace_rows.specs.declared.rule.Sight.{Sight}
 use Rattle.grace_rows.specs.declared.rule.Sight.TheVariants.{Hook, Collector}
 use Rattle.grace_rows.specs.declared.rule.Trail.{Trail}
 use Rattle.grace_rows.specs.Collecting.{IsTaken, flipped, polled, cleared, took, took_at, reopened}
-use Rattle.grace_rows.specs.EventSteps.{IsSeat, IsEvent, entering, leaving, row_word, claiming_first, claiming_second, adding, cutting, joining, flipping, polling, taking, freeing}
+use Rattle.grace_rows.specs.EventSteps.{IsSeat, IsEvent, entering, leaving, row_word, claiming_first, claiming_second, adding, cutting, opening, joining, flipping, polling, taking, freeing}
 use Rattle.grace_rows.specs.Moments.{Moment}
-use Rattle.grace_rows.specs.Shown.{Kept, shown, further, fresh, trail_after, merged, spent}
+use Rattle.grace_rows.specs.Shown.{Kept, shown, further, trail_after, merged, spent, opened_left, opened_right, hooked, cut_right}
 use Rattle.grace_rows.specs.Sights.{hook_of, collect_of, is_hook}
 use Rattle.grace_rows.specs.Trying.{at_turn, add_at, added}
 
@@ -147,11 +147,13 @@ module _ (key : Setup) (s : Moment) (k : Kept key s) where
           ap (option_and_then (λ (view : HookView). machine.add now id view view.at)) (view_at id (Hook v c) at) ∙ (ap (machine.add now id v) here
           ∙ ((λ q. Some (with_word now id (sym (ap (add_at v) here) q) i (get_or-drop 3 s.words i 0 q + j.bytes))) ∙ ap Some (row i (get_or s.words (3 + i) 0 + j.bytes) (added v) (trail_after v.at c))))
 
-    split_is : (n : ℕ) → v.at ≡ Outside → n ≤ v.left → IsEvent key (event.Split id n) s (cutting s n id (Hook v c))
-    split_is n out fits = let y : Sight = Hook (split_left n v) c in let z : Sight = Hook (split_right n v) fresh in
-        ap (option_and_then (λ (view : HookView). machine.split now id n view view.at)) (view_at id (Hook v c) at) ∙ (ap (machine.split now id n v) out
-        ∙ (passing (nat_le n v.left) (state key.rows key.calls choice even odd (drop 3 s.words) (set hooks id (split_left n v) ++ split_right n v ∷ []) (lead s.views)) (le_test n v.left fits)
-        ∙ ap Some (λ i. state key.rows key.calls choice even odd (drop 3 s.words) (((λ q. sym (map-set hook_of s.views id y) q ++ hook_of z ∷ []) ∙ sym (map-append hook_of (set s.views id y) (z ∷ []))) i) (sym (collector_kept s.views id (Hook v c) y (z ∷ []) at refl) i))))
+  -- a seat is cut in two
+  splits : (id n : ℕ) (x y z : Sight) → get_elem? s.views id ≡ some x → (hook_of x).at ≡ Outside → n ≤ (hook_of x).left → hook_of y ≡ split_left n (hook_of x) → hook_of z ≡ split_right n (hook_of x) → lead_of y ≡ lead_of x
+      → IsEvent key (event.Split id n) s record { words = s.words; homes = s.homes; views = set s.views id y ++ z ∷ [] }
+  splits id n x y z at out fits left right same = let v : HookView = hook_of x in
+      ap (option_and_then (λ (view : HookView). machine.split now id n view view.at)) (view_at id x at) ∙ (ap (machine.split now id n v) out
+      ∙ (passing (nat_le n v.left) (state key.rows key.calls choice even odd (drop 3 s.words) (set hooks id (split_left n v) ++ split_right n v ∷ []) (lead s.views)) (le_test n v.left fits)
+      ∙ ap Some (λ i. state key.rows key.calls choice even odd (drop 3 s.words) (((λ q. set hooks id (sym left q) ++ sym right q ∷ []) ∙ ((λ q. sym (map-set hook_of s.views id y) q ++ hook_of z ∷ []) ∙ sym (map-append hook_of (set s.views id y) (z ∷ [])))) i) (sym (collector_kept s.views id x y (z ∷ []) at same) i))))
 
   -- two seats are one
   joins : (id other : ℕ) (x y w : Sight) → get_elem? s.views id ≡ some x → (hook_of x).at ≡ Outside → get_elem? s.views other ≡ some y → (hook_of y).at ≡ Outside → id ≢ other → hook_of w ≡ joined (hook_of x) (hook_of y) → lead_of w ≡ lead_of x → lead_of spent ≡ lead_of y
@@ -255,8 +257,12 @@ module _ (key : Setup) (s : Moment) (id : ℕ) where
   exits_by_event phase charges (Collector v own ss lo ex) i h here = absurd (differ h)
 
   pub splits_by_event : (n : ℕ) (x : Sight) → IsSeat key s id x → is_hook x ≡ true → (hook_of x).at ≡ Outside → n ≤ (hook_of x).left → IsEvent key (event.Split id n) s (cutting s n id x)
-  splits_by_event n (Hook v c) i h out fits = split_is key s i.kept id c v i.view n out fits
+  splits_by_event n (Hook v c) i h out fits = splits key s i.kept id n (Hook v c) (hooked (split_left n) (Hook v c)) (cut_right n (Hook v c)) i.view out fits refl refl refl
   splits_by_event n (Collector v own ss lo ex) i h out fits = absurd (differ h)
+
+  pub opens_by_event : (x : Sight) → IsSeat key s id x → is_hook x ≡ false → (hook_of x).at ≡ Outside → IsEvent key (event.Split id (hook_of x).left) s (opening s id x)
+  opens_by_event (Collector v own ss lo ex) i h out = splits key s i.kept id own.left (Collector v own ss lo ex) (opened_left (Collector v own ss lo ex)) (opened_right (Collector v own ss lo ex)) i.view out (omega arith) refl refl refl
+  opens_by_event (Hook v c) i h out = absurd (differ (sym h))
 
 pub joins_by_event : (key : Setup) (s : Moment) (id other : ℕ) (x y : Sight) → IsSeat key s id x → (hook_of x).at ≡ Outside → IsSeat key s other y → is_hook y ≡ true → (hook_of y).at ≡ Outside → id ≢ other → IsEvent key (event.Join id other) s (joining s id x other y)
 joins_by_event key s id other x y i out i' h out' ne = join_is key s i.kept id other x y i.view out i'.view h out' ne

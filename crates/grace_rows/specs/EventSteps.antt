@@ -13,7 +13,7 @@ use Rattle.grace_rows.specs.Collecting.{flipped, polled, took, reopened}
 use Rattle.grace_rows.specs.declared.rule.Setup.{Setup}
 use Rattle.grace_rows.specs.declared.rule.Sight.{Sight}
 use Rattle.grace_rows.specs.Moments.{Moment}
-use Rattle.grace_rows.specs.Shown.{Kept, shown, hooked, counted, completed, cut_right, merged, spent}
+use Rattle.grace_rows.specs.Shown.{Kept, shown, hooked, counted, completed, cut_right, opened_left, opened_right, merged, spent}
 use Rattle.grace_rows.specs.Sights.{collect_of}
 
 -- At this moment the table keeps its rule, and the seat of this number has this view.
@@ -62,6 +62,10 @@ adding s word n id x = stepped s word (slice_index s.words word + n) id (complet
 -- A hook's seat is cut in two.
 abbrev pub cutting : Moment → ℕ → ℕ → Sight → Moment
 cutting s n id x = record { words = s.words; homes = s.homes; views = slice_set s.views id (hooked (split_left n) x) ++ cut_right n x ∷ [] }
+
+-- The collector's seat gives all calls of the hook that it shows to a new seat.
+abbrev pub opening : Moment → ℕ → Sight → Moment
+opening s id x = record { words = s.words; homes = s.homes; views = slice_set s.views id (opened_left x) ++ opened_right x ∷ [] }
 
 -- A seat takes a hook's seat in.
 abbrev pub joining : Moment → ℕ → Sight → ℕ → Sight → Moment

@@ -10,7 +10,7 @@ ghost use Rattle.grace_core.specs.Machine.{IsValidJob, packets_column, bytes_col
 ghost use Rattle.grace_rows.specs.Collecting.{IsTaken};
 ghost use Rattle.grace_rows.specs.declared.rule.Setup.{Setup};
 ghost use Rattle.grace_rows.specs.declared.rule.Sight.{Sight};
-ghost use Rattle.grace_rows.specs.EventSteps.{IsSeat, IsEvent, entering, leaving, row_word, claiming_first, claiming_second, adding, cutting, joining, flipping, polling, taking, freeing};
+ghost use Rattle.grace_rows.specs.EventSteps.{IsSeat, IsEvent, entering, leaving, row_word, claiming_first, claiming_second, adding, cutting, opening, joining, flipping, polling, taking, freeing};
 ghost use Rattle.grace_rows.specs.Moments.{Moment};
 ghost use Rattle.grace_rows.specs.Sights.{hook_of, collect_of, is_hook};
 ghost use Rattle.grace_rows.specs.Trying.{at_turn};
@@ -37,12 +37,15 @@ pub fn steps_of_hooks_are_events()
         IsEvent key (Exit id) s (leaving s phase id x) }
 {}
 
-/// A cut of a hook's seat and a join of two seats are their events. The first seat of a join may be the
-/// collector's, which then takes the other's calls and charges to the hook that it shows.
+/// A cut of a hook's seat, the first cut of the collector's, and a join of two seats are their events. The first
+/// seat of a join may be the collector's, which then takes the other's calls and charges to the hook that it shows.
 pub fn cuts_and_joins_are_events()
     ensures split { (key : Setup) (s : Moment) (id n : ℕ) (x : Sight) →
         IsSeat key s id x → is_hook x ≡ true → (hook_of x).at ≡ Outside → n ≤ (hook_of x).left →
         IsEvent key (Split id n) s (cutting s n id x) }
+    ensures first_cut { (key : Setup) (s : Moment) (id : ℕ) (x : Sight) →
+        IsSeat key s id x → is_hook x ≡ false → (hook_of x).at ≡ Outside →
+        IsEvent key (Split id (hook_of x).left) s (opening s id x) }
     ensures join { (key : Setup) (s : Moment) (id other : ℕ) (x y : Sight) →
         IsSeat key s id x → (hook_of x).at ≡ Outside → IsSeat key s other y → is_hook y ≡ true → (hook_of y).at ≡ Outside → id ≢ other →
         IsEvent key (Join id other) s (joining s id x other y) }
