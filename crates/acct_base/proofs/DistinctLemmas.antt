@@ -3,6 +3,7 @@ use Rattle.std.proofs.Common.{◌≡◌, ℕ, suc, ◌+◌, ◌≤◌, Bool, tru
 use mathlib.Core.Logic.{dite}
 use native.Mathlib.Decide.{ℕ_discrete}
 use Rattle.acct_base.specs.Distinct.{mem, distinct, NoTwice}
+use Rattle.acct_base.proofs.Members.{or_right}
 
 bit : Bool → ℕ
 bit true = 1
@@ -30,10 +31,6 @@ tally_at_most f (k ∷ ks) = let a = tally_at_most f ks in let b = bit_below (f 
 
 or_false : (a b : Bool) → a ≡ false → (a || b) ≡ b
 or_false a b e = ap (λ (x : Bool). x || b) e
-
-or_true : (a b : Bool) → b ≡ true → (a || b) ≡ true
-or_true true b e = refl
-or_true false b e = e
 
 -- one number more, which is among ks and did not pass before
 tally_skip : (f : ℕ → Bool) (x : ℕ) (ks : List ℕ) → mem x ks ≡ false → tally (λ k. nat_eq x k || f k) ks ≡ tally f ks
@@ -70,7 +67,7 @@ tally_none [] = refl
 tally_none (k ∷ ks) = tally_none_step (tally (λ _. false) ks) (tally_none ks)
 
 same_or : (x k : ℕ) (xs : List ℕ) → mem x xs ≡ true → (nat_eq x k || mem k xs) ≡ mem k xs
-same_or x k xs m = dite (ℕ_discrete x k) (λ e. let a : mem k xs ≡ true = subst (λ (y : ℕ). mem y xs ≡ true) e m in or_true (nat_eq x k) (mem k xs) a ∙ sym a) (λ ne. or_false (nat_eq x k) (mem k xs) (ne_eqb x k ne))
+same_or x k xs m = dite (ℕ_discrete x k) (λ e. let a : mem k xs ≡ true = subst (λ (y : ℕ). mem y xs ≡ true) e m in or_right (nat_eq x k) (mem k xs) a ∙ sym a) (λ ne. or_false (nat_eq x k) (mem k xs) (ne_eqb x k ne))
 
 step_same : (a d s t : ℕ) → a ≡ 0 → d ≡ t → s ≡ t → a + d ≡ s
 step_same a d s t e f g = omega arith
@@ -85,7 +82,7 @@ distinct_step ks x xs ih once inside false e = step_one (cond (mem x xs) 0 1) (d
 -- the different numbers of xs, counted among ks
 distinct_among : (ks xs : List ℕ) → NoTwice ks → ((x : ℕ) → mem x xs ≡ true → mem x ks ≡ true) → distinct xs ≡ tally (λ k. mem k xs) ks
 distinct_among ks [] once h = sym (tally_none ks)
-distinct_among ks (x ∷ xs) once h = distinct_step ks x xs (distinct_among ks xs once (λ y m. h y (or_true (nat_eq x y) (mem y xs) m))) once (h x (ap (λ (b : Bool). b || mem x xs) (eq-eqb x x refl))) (mem x xs) refl
+distinct_among ks (x ∷ xs) once h = distinct_step ks x xs (distinct_among ks xs once (λ y m. h y (or_right (nat_eq x y) (mem y xs) m))) once (h x (ap (λ (b : Bool). b || mem x xs) (eq-eqb x x refl))) (mem x xs) refl
 
 all_step : (a t n : ℕ) → a ≡ 1 → t ≡ n → a + t ≡ suc n
 all_step a t n e f = omega arith
@@ -93,7 +90,7 @@ all_step a t n e f = omega arith
 tally_all : (f : ℕ → Bool) (ks : List ℕ) → ((k : ℕ) → mem k ks ≡ true → f k ≡ true) → tally f ks ≡ length ks
 unfolding tally bit
 tally_all f [] h = refl
-tally_all f (k ∷ ks) h = all_step (bit (f k)) (tally f ks) (length ks) (ap bit (h k (ap (λ (b : Bool). b || mem k ks) (eq-eqb k k refl)))) (tally_all f ks (λ x m. h x (or_true (nat_eq k x) (mem x ks) m)))
+tally_all f (k ∷ ks) h = all_step (bit (f k)) (tally f ks) (length ks) (ap bit (h k (ap (λ (b : Bool). b || mem k ks) (eq-eqb k k refl)))) (tally_all f ks (λ x m. h x (or_right (nat_eq k x) (mem x ks) m)))
 
 -- as many as a list without repeats that has the same numbers
 pub distinct_is : (ks xs : List ℕ) → NoTwice ks → ((x : ℕ) → mem x xs ≡ true → mem x ks ≡ true) → ((x : ℕ) → mem x ks ≡ true → mem x xs ≡ true) → distinct xs ≡ length ks

@@ -1,12 +1,13 @@
 -- Ascending lists of keys: what inserting keeps, and that two with the same members are equal.
 use Rattle.std.proofs.Common.{◌≡◌, ℕ, suc, ◌≤◌, List, [], ◌∷◌, ◌++◌, length, refl, sym, ap, subst, ◌∙◌, arith, Bool, true, false}
-use Rattle.std.specs.Prelude.{◌==◌, ◌&&◌, ◌||◌, fold}
+use Rattle.std.specs.Prelude.{◌==◌, ◌||◌, fold}
 use Rattle.std.specs.List.{AllByRecursion, list_any, IsDistinct}
 use Rattle.std.specs.List.Sorted.{IsStrictlySortedBy}
 use Rattle.std.specs.Cmp.{IsTotalOrder}
 use Rattle.std.specs.declared.cmp.Ordering.{Ordering}
 use Rattle.std.specs.declared.cmp.Ordering.TheVariants.{Less, Equal, Greater}
 use Rattle.std.specs.Ordering.{match_ordering, ordering_then, ordering_reverse, nat_cmp}
+use Rattle.std.proofs.lemmas.Bool.{and_parts, or_cases, or_parts}
 use Rattle.std.proofs.lemmas.Cmp.{nat_cmp_total, then_total}
 use Rattle.std.proofs.lemmas.Grind.{fold-append}
 use mathlib.Core.Logic.{◌⊎◌, inl, inr}
@@ -26,14 +27,6 @@ pub record Agree {K : Type 0} (R : K → K → Ordering) (eq : K → K → Bool)
 
 abbrev pub has : {K : Type 0} → (K → K → Bool) → List K → K → Bool
 has eq xs z = list_any (λ k. eq k z) xs
-
-pub or_cases : (a b : Bool) → (a || b) ≡ true → (a ≡ true) ⊎ (b ≡ true)
-or_cases true b e = inl refl
-or_cases false b e = inr e
-
-neither : (a b : Bool) → (a || b) ≡ false → (a ≡ false) × (b ≡ false)
-neither true b e = absurd (cc)
-neither false b e = (refl, e)
 
 or_mid : (a b c : Bool) → (a || (b || c)) ≡ ((b || a) || c)
 or_mid true true c = refl
@@ -55,6 +48,11 @@ plus_zero a = plus_comm a zero_amount ∙ zero_plus a
 pub decided : (b : Bool) → (b ≡ true) ⊎ (b ≡ false)
 decided true = inl refl
 decided false = inr refl
+
+-- what is below the first of an ascending list is below all of it
+pub below_all : {K : Type 0} (R : K → K → Ordering) → IsTotalOrder R → (x y : K) (ys : List K) → R x y ≡ Less → AllByRecursion (λ z. R y z ≡ Less) ys → AllByRecursion (λ z. R x z ≡ Less) ys
+below_all R total x y [] e a = tt
+below_all R total x y (z ∷ zs) e a = (total.trans x y z e a.0, below_all R total x y zs e a.1)
 
 module _ {K : Type 0} (R : K → K → Ordering) (eq : K → K → Bool) (h : Agree R eq) where
   pub all_has : (P : K → Type 0) (xs : List K) (z : K) → AllByRecursion P xs → has eq xs z ≡ true → P z
@@ -135,17 +133,13 @@ module _ {K : Type 0} (R : K → K → Ordering) (eq : K → K → Bool) (h : Ag
     | Greater ↦ (a.0, inserted_all P ys x p a.1)
   ]
 
-  below_all : (x y : K) (ys : List K) → R x y ≡ Less → AllByRecursion (λ z. R y z ≡ Less) ys → AllByRecursion (λ z. R x z ≡ Less) ys
-  below_all x y [] e a = tt
-  below_all x y (z ∷ zs) e a = (h.total.trans x y z e a.0, below_all x y zs e a.1)
-
-  inserted_sorted : (ys : List K) (x : K) → IsStrictlySortedBy R ys → IsStrictlySortedBy R (insert_once R ys x)
+  pub inserted_sorted : (ys : List K) (x : K) → IsStrictlySortedBy R ys → IsStrictlySortedBy R (insert_once R ys x)
   unfolding IsStrictlySortedBy
   inserted_sorted [] x a = (tt, tt)
   inserted_sorted (y ∷ ys) x a =
       let place : (o : Ordering) → R x y ≡ o → IsStrictlySortedBy R (match_ordering o (x ∷ y ∷ ys) (y ∷ ys) (y ∷ insert_once R ys x)) = λ o. elim o as (λ o. R x y ≡ o →
       IsStrictlySortedBy R (match_ordering o (x ∷ y ∷ ys) (y ∷ ys) (y ∷ insert_once R ys x))) [
-        | Less ↦ λ e. ((e, below_all x y ys e a.0), a)
+        | Less ↦ λ e. ((e, below_all R h.total x y ys e a.0), a)
         | Equal ↦ λ e. a
         | Greater ↦ λ e. (inserted_all (λ z. R y z ≡ Less) ys x (h.total.antisymm y x ∙ ap ordering_reverse e) a.0, inserted_sorted ys x a.1)
       ] in
@@ -155,7 +149,7 @@ module _ {K : Type 0} (R : K → K → Ordering) (eq : K → K → Bool) (h : Ag
   fold_has from [] z = refl
   fold_has from (x ∷ xs) z = fold_has (insert_once R from x) xs z ∙ ap (λ t. has eq xs z || t) (inserted_has from x z) ∙ or_mid (has eq xs z) (eq x z) (has eq from z)
 
-  fold_sorted : (from xs : List K) → IsStrictlySortedBy R from → IsStrictlySortedBy R (fold (insert_once R) from xs)
+  pub fold_sorted : (from xs : List K) → IsStrictlySortedBy R from → IsStrictlySortedBy R (fold (insert_once R) from xs)
   fold_sorted from [] a = a
   fold_sorted from (x ∷ xs) a = fold_sorted (insert_once R from x) xs (inserted_sorted from x a)
 
@@ -168,7 +162,7 @@ module _ {K : Type 0} (R : K → K → Ordering) (eq : K → K → Bool) (h : Ag
 
   -- an item that stands there is not inserted again
   none_before : (x y : K) (ys : List K) → R x y ≡ Less → AllByRecursion (λ z. R y z ≡ Less) ys → has eq (y ∷ ys) x ≡ true → ⊥
-  none_before x y ys e a there = irreflexive x (all_has (λ z. R x z ≡ Less) (y ∷ ys) x (e, below_all x y ys e a) there)
+  none_before x y ys e a there = irreflexive x (all_has (λ z. R x z ≡ Less) (y ∷ ys) x (e, below_all R h.total x y ys e a) there)
 
   pub inserted_there : (ys : List K) (x : K) → IsStrictlySortedBy R ys → has eq ys x ≡ true → insert_once R ys x ≡ ys
   unfolding IsStrictlySortedBy
@@ -197,7 +191,7 @@ module _ {K : Type 0} (R : K → K → Ordering) (eq : K → K → Bool) (h : Ag
   pub inserted_new : (ys : List K) (x : K) → has eq ys x ≡ false → length (insert_once R ys x) ≡ suc (length ys)
   inserted_new [] x none = refl
   inserted_new (y ∷ ys) x none =
-      let parts = neither (eq y x) (has eq ys x) none in
+      let parts = or_parts (eq y x) (has eq ys x) none in
       let place : (o : Ordering) → R x y ≡ o → length (match_ordering o (x ∷ y ∷ ys) (y ∷ ys) (y ∷ insert_once R ys x)) ≡ suc (suc (length ys)) = λ o. elim o as (λ o. R x y ≡ o →
       length (match_ordering o (x ∷ y ∷ ys) (y ∷ ys) (y ∷ insert_once R ys x)) ≡ suc (suc (length ys))) [
         | Less ↦ λ e. refl
@@ -283,11 +277,7 @@ then_ties Less b e = absurd (cc)
 then_ties Equal b e = (refl, e)
 then_ties Greater b e = absurd (cc)
 
-pub and_both : (a b : Bool) → (a && b) ≡ true → (a ≡ true) × (b ≡ true)
-and_both true b e = (refl, e)
-and_both false b e = absurd (cc)
-
-label_ties : (x y : Label) → label_cmp x y ≡ Equal → x ≡ y
+pub label_ties : (x y : Label) → label_cmp x y ≡ Equal → x ≡ y
 label_ties x y e =
     let a = then_ties _ _ e in
     let b = then_ties _ _ a.1 in
@@ -296,9 +286,9 @@ label_ties x y e =
 
 pub label_same : (x y : Label) → same_label x y ≡ true → x ≡ y
 label_same x y e =
-    let a = and_both _ _ e in
-    let b = and_both _ _ a.0 in
-    let c = and_both _ _ b.0 in
+    let a = and_parts _ _ e in
+    let b = and_parts _ _ a.0 in
+    let c = and_parts _ _ b.0 in
     λ i. record { uid = eqb_same x.uid y.uid c.0 i; tag = eqb_same x.tag y.tag c.1 i; set = eqb_same x.set y.set b.1 i; iface = eqb_same x.iface y.iface a.1 i }
 
 pub label_self : (x : Label) → same_label x x ≡ true

@@ -7,6 +7,7 @@ use Rattle.std.specs.declared.cmp.Ordering.{Ordering}
 use Rattle.std.specs.Ordering.{nat_cmp}
 use Rattle.std.proofs.lemmas.List.Elements.{filter-append}
 use mathlib.Core.Logic.{inl, inr}
+use Rattle.std.proofs.lemmas.Bool.{and_parts}
 use Rattle.acct_base.specs.declared.charge.Charge.{Charge}
 use Rattle.acct_base.specs.Amounts.{same_label, label_cmp}
 use Rattle.acct_base.specs.Ordered.{insert_once, ascending}
@@ -14,7 +15,7 @@ use Rattle.acct_base.specs.Receipts.{Add}
 use Rattle.captures.proofs.Lists.{all_append, all_more}
 use Rattle.acct_base.specs.Landings.{finds_room, landed_labels, same_number}
 use Rattle.acct_base.specs.Landings.{LandInTurn, AddInTurn}
-use Rattle.acct_base.proofs.Keys.{Agree, has, decided, and_both, eqb_same, ascending_sorted, ascending_more, inserted_there, inserted_long, label_agree, nat_agree}
+use Rattle.acct_base.proofs.Keys.{Agree, has, decided, eqb_same, ascending_sorted, ascending_more, inserted_there, inserted_long, label_agree, nat_agree}
 
 no_room : {K : Type 0} (eq : K → K → Bool) (size : ℕ) (ts : List K) (k : K) → finds_room eq size ts k ≡ false → (has eq ts k ≡ false) × (size ≤ length ts)
 no_room eq size ts k e = both (has eq ts k) (nat_lt (length ts) size) e refl
@@ -102,7 +103,7 @@ PhaseFacts size n cs = Facts label_cmp same_label label_agree (λ (c : Charge). 
 charge_took : (size n : ℕ) (before : List Charge) (c : Charge) → c.landed ≡ finds_room same_label size (landed_labels before c.phase) c.job.label →
     Took label_cmp same_label label_agree (λ (c : Charge). c.job.label) (in_phase n) (NotLanded n) size before c
 charge_took size n before c e = record {
-  takes = λ t. let parts = and_both _ _ t in
+  takes = λ t. let parts = and_parts _ _ t in
       sym (ap (λ (k : ℕ). finds_room same_label size (landed_labels before k) c.job.label) (eqb_same c.phase n parts.1)) ∙ sym e ∙ parts.0;
   refused = λ r. sym (ap (λ (k : ℕ). finds_room same_label size (landed_labels before k) c.job.label) r.phase) ∙ sym e ∙ r.full;
 }

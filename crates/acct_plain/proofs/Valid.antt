@@ -22,7 +22,7 @@ use Rattle.acct_base.specs.Amounts.{IsValidLabel}
 use Rattle.acct_base.specs.Entries.{word_uid, word_tag, tag_word}
 use Rattle.acct_base.specs.Rules.{settle, is_dns}
 use Rattle.acct_base.specs.Journal.{same_key, last_from, value_of_write, current}
-use Rattle.acct_base.proofs.JournalLemmas.{slice_get-seam}
+use Rattle.acct_base.proofs.JournalLemmas.{current_all}
 use Rattle.acct_base.specs.Receipts.{HookCall, Call, settled_of, settled, counted, is_clat, tagged_uid, match_read, tag_of, label, charge_to, untagged, charges, number_read}
 use Rattle.acct_base.specs.Receipts.Call.{Hook, Iface, Allow, Deny}
 use Rattle.desk_core.specs.declared.command.Chain.{Chain}
@@ -32,6 +32,7 @@ use Rattle.desk_core.specs.declared.command.Command.TheVariants as command
 use Rattle.desk_core.specs.Commands.{clear, clear_set, effect, writes, reply, is_done, has_entry, take_bit, put_bit, entry_with, entry_without, puts_bit, cookies_tagged, unlisted, bit_value, chain_bit, old_enabled, with_bit, without_bit}
 use Rattle.desk_core.specs.Ranges.{IsInRange}
 use Rattle.acct_base.specs.Ranges.{IsCallInRange, IsHookInRange}
+use Rattle.desk_core.proofs.FormLemmas.{bit_small, enabled_in, word_back}
 use Rattle.captures.specs.Runs.{Past}
 use Rattle.captures.proofs.Lists.{all_append}
 use Rattle.acct_plain.specs.Sound.{IsSoundValue, IsSoundWrite}
@@ -39,34 +40,8 @@ use Rattle.acct_plain.specs.Serial.{serial_receipt, serial_line}
 
 -- ---- what is in the journal
 
-same_key_is : (k l : Key) → same_key k l ≡ true → l ≡ k
-same_key_is (Cookie a) (Cookie b) e = ap (λ (n : ℕ). Cookie n) (sym (eqb-true a b e))
-same_key_is (Set a) (Set b) e = ap (λ (n : ℕ). Set n) (sym (eqb-true a b e))
-same_key_is (Owner a) (Owner b) e = ap (λ (n : ℕ). Owner n) (sym (eqb-true a b e))
-same_key_is Enabled Enabled e = refl
-same_key_is _ _ e = absurd (cc)
-
-module _ (key : Key) where
-  found_sound : (front ws : List Write) (found : ℕ) → AllByRecursion IsSoundWrite ws → IfSome (value_of_write (front ++ ws) found) (IsSoundValue key) →
-      IfSome (value_of_write (front ++ ws) (last_from found (suc (length front)) key ws)) (IsSoundValue key)
-  found_sound front [] found a k = k
-  found_sound front (w ∷ ws) found a k =
-      let whole : (front ++ w ∷ []) ++ ws ≡ front ++ w ∷ ws = append_assoc front (w ∷ []) ws in
-      let long : length (front ++ w ∷ []) ≡ suc (length front) = omega (arith, length-append front (w ∷ [])) in
-      let here : value_of_write (front ++ w ∷ ws) (suc (length front)) ≡ w.value = ap (option_and_then (λ (x : Write). x.value)) (slice_get-seam front w ws) in
-      let pick : (b : Bool) → same_key key w.key ≡ b → IfSome (value_of_write (front ++ w ∷ ws) (if b then suc (length front) else found)) (IsSoundValue key) =
-      λ b. elim b as (λ b. same_key key w.key ≡ b → IfSome (value_of_write (front ++ w ∷ ws) (if b then suc (length front) else found)) (IsSoundValue key)) [
-        | true ↦ λ e. subst (λ (o : Option ℕ). IfSome o (IsSoundValue key)) (sym here) (subst (λ (l : Key). IfSome w.value (IsSoundValue l)) (same_key_is key w.key e) a.0)
-        | false ↦ λ e. k
-      ] in
-      let next = if same_key key w.key then suc (length front) else found in
-      let rest : IfSome (value_of_write ((front ++ w ∷ []) ++ ws) (last_from next (suc (length (front ++ w ∷ []))) key ws)) (IsSoundValue key) =
-      found_sound (front ++ w ∷ []) ws next a.1 (subst (λ (j : List Write). IfSome (value_of_write j next) (IsSoundValue key)) (sym whole) (pick (same_key key w.key) refl)) in
-      subst (λ (x : List Write × ℕ). IfSome (value_of_write x.0 (last_from next (suc x.1) key ws)) (IsSoundValue key)) (λ i. (whole i, long i)) rest
-
-  pub current_sound : (journal : List Write) → AllByRecursion IsSoundWrite journal → IfSome (current journal key) (IsSoundValue key)
-  current_sound journal a =
-      subst (λ (ws : List Write). IfSome (value_of_write journal (last_from 0 1 key ws)) (IsSoundValue key)) (sym (take-length journal)) (found_sound [] journal 0 a tt)
+pub current_sound : (key : Key) (journal : List Write) → AllByRecursion IsSoundWrite journal → IfSome (current journal key) (IsSoundValue key)
+current_sound key journal a = current_all IsSoundValue key journal a
 
 -- ---- what commands write
 
@@ -89,18 +64,6 @@ all_put journal b iface (uid ∷ uids) = (free (entry_with b iface (current jour
 set_cleared : (journal : List Write) (uid : ℕ) → AllByRecursion IsSoundWrite (clear_set journal uid)
 set_cleared journal uid = elim (has_entry journal (Set uid)) as (λ b. AllByRecursion IsSoundWrite (if b then clear (Set uid) ∷ [] else [])) [ true ↦ (tt, tt) | false ↦ tt ]
 
-word_back : (uid tag : ℕ) → tag < 2 ^ 32 → word_uid (tag_word uid tag) ≡ uid
-word_back uid tag h = omega (arith, h)
-
-enabled_in : (o : Option ℕ) → IfSome o (λ v. v < 2 ^ 32) → unwrap_or o 0 < 2 ^ 32
-enabled_in None h = omega arith
-enabled_in (Some v) h = h
-
-chain_small : (c : Chain) → bit_value (chain_bit c) < 2 ^ 32
-chain_small chain.Dozable = omega arith
-chain_small chain.Standby = omega arith
-chain_small chain.PowerSave = omega arith
-
 effect_sound : (journal : List Write) (c : Command) → AllByRecursion IsSoundWrite journal → IsInRange c → AllByRecursion IsSoundWrite (effect journal c)
 effect_sound journal (command.Tag caller cookie uid tag) sound h = (subst (λ (n : ℕ). n < 4294967295) (sym (word_back uid tag h.2)) h.1, tt)
 effect_sound journal (command.Untag cookie) sound h = (tt, tt)
@@ -114,7 +77,7 @@ effect_sound journal (command.Remove uid b) sound h = (free (entry_without (bit_
 effect_sound journal (command.Toggle c on) sound h =
     let old = enabled_in (current journal Enabled) (current_sound Enabled journal sound) in (
       elim on as (λ b. (if b then with_bit (old_enabled journal) (bit_value (chain_bit c)) else without_bit (old_enabled journal) (bit_value (chain_bit c))) < 2 ^ 32) [
-        | true ↦ or_lt 32 (old_enabled journal) (bit_value (chain_bit c)) old (chain_small c)
+        | true ↦ or_lt 32 (old_enabled journal) (bit_value (chain_bit c)) old (bit_small (chain_bit c))
         | false ↦ omega (arith, old, and_le_l (old_enabled journal) (4294967295 - bit_value (chain_bit c)))
       ],
       tt,

@@ -1,6 +1,6 @@
 -- What commands write has the form that registers ask for.
-use Rattle.std.proofs.Common.{◌≡◌, ◌≢◌, ℕ, suc, ◌-◌, ◌^◌, ◌≤◌, ◌<◌, List, [], ◌∷◌, ◌++◌, length, map, refl, sym, ap, subst, ◌∙◌, arith, Option, Some, None, Bool, true, false, append_assoc, length-append, true≢false}
-use Rattle.std.specs.Prelude.{IfSome, ◌==◌, if◌then◌else◌, option_and_then, unwrap_or, is_some, filter, filter_map, cond}
+use Rattle.std.proofs.Common.{◌≡◌, ◌≢◌, ℕ, suc, ◌-◌, ◌^◌, ◌≤◌, ◌<◌, List, [], ◌∷◌, ◌++◌, length, map, refl, sym, ap, subst, ◌∙◌, arith, Option, Some, None, Bool, true, false, true≢false}
+use Rattle.std.specs.Prelude.{IfSome, ◌==◌, if◌then◌else◌, unwrap_or, is_some, filter, filter_map, cond}
 use Rattle.std.specs.List.{AllByRecursion}
 use Rattle.std.specs.Ordering.{nat_cmp}
 use Rattle.std.proofs.Math.Seq.{take-length}
@@ -14,7 +14,7 @@ use Rattle.acct_base.specs.Entries.{word_uid, word_iface, tag_word, owner_word}
 use Rattle.acct_base.specs.Journal.{same_key, last_from, last_write, value_of_write, current}
 use Rattle.acct_base.specs.Landings.{same_number}
 use Rattle.acct_base.specs.Registers.{IsWritable, IsValueOf, IsWellFormed, cookie_of, keys_written}
-use Rattle.acct_base.proofs.JournalLemmas.{slice_get-seam}
+use Rattle.acct_base.proofs.JournalLemmas.{current_all}
 use Rattle.acct_base.proofs.Keys.{nat_agree, ascending_all}
 use Rattle.desk_core.specs.declared.command.Bit.{Bit}
 use Rattle.desk_core.specs.declared.command.Bit.TheVariants as bit
@@ -28,10 +28,7 @@ use Rattle.desk_core.specs.Book.{BookView, IsDecisionOf}
 use Rattle.desk_core.specs.declared.command.Decision.{Decision}
 use Rattle.desk_core.specs.Ranges.{IsInRange}
 use Rattle.desk_core.specs.Registers.{seen_now, unseen}
-
-all_append : {X : Type 0} (P : X → Type 0) (xs ys : List X) → AllByRecursion P xs → AllByRecursion P ys → AllByRecursion P (xs ++ ys)
-all_append P [] ys h k = k
-all_append P (x ∷ xs) ys h k = (h.0, all_append P xs ys h.1 k)
+use Rattle.desk_core.proofs.RoomLemmas.{all_append, all_alike}
 
 all_filter : {X : Type 0} (P : X → Type 0) (p : X → Bool) (xs : List X) → AllByRecursion P xs → AllByRecursion P (filter p xs)
 all_filter P p [] h = tt
@@ -39,34 +36,8 @@ all_filter P p (x ∷ xs) h = elim (p x) as (λ b. AllByRecursion P (cond b (x �
 
 -- ---- what is in the journal
 
-same_key_is : (k l : Key) → same_key k l ≡ true → l ≡ k
-same_key_is (Cookie a) (Cookie b) e = ap (λ (n : ℕ). Cookie n) (sym (eqb-true a b e))
-same_key_is (Set a) (Set b) e = ap (λ (n : ℕ). Set n) (sym (eqb-true a b e))
-same_key_is (Owner a) (Owner b) e = ap (λ (n : ℕ). Owner n) (sym (eqb-true a b e))
-same_key_is Enabled Enabled e = refl
-same_key_is _ _ e = absurd (cc)
-
-module _ (key : Key) where
-  found_formed : (front ws : List Write) (found : ℕ) → AllByRecursion IsWellFormed ws → IfSome (value_of_write (front ++ ws) found) (IsValueOf key) →
-      IfSome (value_of_write (front ++ ws) (last_from found (suc (length front)) key ws)) (IsValueOf key)
-  found_formed front [] found a k = k
-  found_formed front (w ∷ ws) found a k =
-      let whole : (front ++ w ∷ []) ++ ws ≡ front ++ w ∷ ws = append_assoc front (w ∷ []) ws in
-      let long : length (front ++ w ∷ []) ≡ suc (length front) = omega (arith, length-append front (w ∷ [])) in
-      let here : value_of_write (front ++ w ∷ ws) (suc (length front)) ≡ w.value = ap (option_and_then (λ (x : Write). x.value)) (slice_get-seam front w ws) in
-      let pick : (b : Bool) → same_key key w.key ≡ b → IfSome (value_of_write (front ++ w ∷ ws) (if b then suc (length front) else found)) (IsValueOf key) =
-      λ b. elim b as (λ b. same_key key w.key ≡ b → IfSome (value_of_write (front ++ w ∷ ws) (if b then suc (length front) else found)) (IsValueOf key)) [
-        | true ↦ λ e. subst (λ (o : Option ℕ). IfSome o (IsValueOf key)) (sym here) (subst (λ (l : Key). IfSome w.value (IsValueOf l)) (same_key_is key w.key e) a.0.value)
-        | false ↦ λ e. k
-      ] in
-      let next = if same_key key w.key then suc (length front) else found in
-      let rest : IfSome (value_of_write ((front ++ w ∷ []) ++ ws) (last_from next (suc (length (front ++ w ∷ []))) key ws)) (IsValueOf key) =
-      found_formed (front ++ w ∷ []) ws next a.1 (subst (λ (j : List Write). IfSome (value_of_write j next) (IsValueOf key)) (sym whole) (pick (same_key key w.key) refl)) in
-      subst (λ (x : List Write × ℕ). IfSome (value_of_write x.0 (last_from next (suc x.1) key ws)) (IsValueOf key)) (λ i. (whole i, long i)) rest
-
-  pub current_formed : (journal : List Write) → AllByRecursion IsWellFormed journal → IfSome (current journal key) (IsValueOf key)
-  current_formed journal a =
-      subst (λ (ws : List Write). IfSome (value_of_write journal (last_from 0 1 key ws)) (IsValueOf key)) (sym (take-length journal)) (found_formed [] journal 0 a tt)
+pub current_formed : (key : Key) (journal : List Write) → AllByRecursion IsWellFormed journal → IfSome (current journal key) (IsValueOf key)
+current_formed key journal a = current_all IsValueOf key journal (all_alike IsWellFormed (λ (w : Write). IfSome w.value (IsValueOf w.key)) (λ w h. h.value) journal a)
 
 -- no write is to Cookie(0)
 other_key : (k : Key) → IsWritable k → same_key (Cookie 0) k ≡ false
@@ -114,11 +85,11 @@ iface_in-small : (o : Option ℕ) (uid : ℕ) → IfSome o (IsValueOf (Owner uid
 iface_in-small None uid h = omega arith
 iface_in-small (Some v) uid h = h
 
-rule_in-small : (o : Option ℕ) → rule_in o < 2 ^ 32
+pub rule_in-small : (o : Option ℕ) → rule_in o < 2 ^ 32
 rule_in-small None = omega arith
 rule_in-small (Some v) = omega arith
 
-iface_back : (i r : ℕ) → r < 2 ^ 32 → word_iface (owner_word i r) ≡ i
+pub iface_back : (i r : ℕ) → r < 2 ^ 32 → word_iface (owner_word i r) ≡ i
 iface_back i r h = omega (arith, h)
 
 with_formed : (uid b iface : ℕ) (o : Option ℕ) → b < 2 ^ 32 → iface ≤ 16777215 → IfSome o (IsValueOf (Owner uid)) → IfSome (entry_with b iface o) (IsValueOf (Owner uid))
@@ -137,7 +108,7 @@ without_formed uid b o old =
     (elim (b == iface_bit) as (λ (t : Bool). (if t then 0 else iface_in o) ≤ 16777215) [ true ↦ omega arith | false ↦ iface_in-small o uid old ]) in
     elim (r == 0) as (λ (t : Bool). IfSome (if t then None else Some (owner_word i r)) (IsValueOf (Owner uid))) [ true ↦ tt | false ↦ fits ]
 
-bit_small : (b : Bit) → bit_value b < 2 ^ 32
+pub bit_small : (b : Bit) → bit_value b < 2 ^ 32
 bit_small bit.Happy = omega arith
 bit_small bit.Penalty = omega arith
 bit_small bit.Dozable = omega arith
@@ -145,10 +116,10 @@ bit_small bit.Standby = omega arith
 bit_small bit.PowerSave = omega arith
 bit_small bit.Iface = omega arith
 
-word_back : (uid tag : ℕ) → tag < 2 ^ 32 → word_uid (tag_word uid tag) ≡ uid
+pub word_back : (uid tag : ℕ) → tag < 2 ^ 32 → word_uid (tag_word uid tag) ≡ uid
 word_back uid tag h = omega (arith, h)
 
-enabled_in : (o : Option ℕ) → IfSome o (λ v. v < 2 ^ 32) → unwrap_or o 0 < 2 ^ 32
+pub enabled_in : (o : Option ℕ) → IfSome o (λ v. v < 2 ^ 32) → unwrap_or o 0 < 2 ^ 32
 enabled_in None h = omega arith
 enabled_in (Some v) h = h
 

@@ -5,6 +5,7 @@ use native.Mathlib.Decide.{ℕ_discrete}
 use Rattle.std.specs.Prelude.{slice_get, Some}
 use Rattle.std.proofs.lemmas.List.{set-get_or}
 use Rattle.acct_base.specs.declared.charge.Job.{Job}
+use Rattle.acct_base.proofs.Members.{or_right}
 use Rattle.grace_core.specs.declared.view.HookView.{HookView}
 use Rattle.grace_core.specs.declared.view.At.{At}
 use Rattle.grace_core.specs.declared.view.At.TheVariants.{Second, Adding}
@@ -24,10 +25,6 @@ use Rattle.grace_core.proofs.Bounds.{packets_most, bytes_most}
 
 either_true : (a b : Bool) → a ≡ true → (a || b) ≡ true
 either_true a b e = ap (λ (z : Bool). z || b) e
-
-or_true : (a b : Bool) → b ≡ true → (a || b) ≡ true
-or_true true b e = refl
-or_true false b e = e
 
 both_false : (a b : Bool) → a ≡ false → b ≡ false → (a || b) ≡ false
 both_false a b e f = λ i. e i || f i
@@ -70,7 +67,7 @@ module _ (s : State) (g : IsGood s) (id : ℕ) (v : HookView) (at : slice_get s.
           (first_outcome true (set s.words place1 (pack1 j.label)) (either_true (eqb found1 0) (eqb found1 (pack1 j.label)) (eq-eqb found1 0 free)) (first_took s g id v at p was c t j r idle (is1 ∙ free))))
           (λ taken. subst (λ (us : List ℕ). IsGood (after_change s id (first_found s.rows v p c j t found1) us)) (sym (claims_taken s.words place1 (pack1 j.label) taken))
           (dite (ℕ_discrete found1 (pack1 j.label))
-          (λ mine. first_outcome true s.words (or_true (eqb found1 0) (eqb found1 (pack1 j.label)) (eq-eqb found1 (pack1 j.label) mine)) (first_mine s g id v at p was c t j r idle (is1 ∙ mine)))
+          (λ mine. first_outcome true s.words (or_right (eqb found1 0) (eqb found1 (pack1 j.label)) (eq-eqb found1 (pack1 j.label) mine)) (first_mine s g id v at p was c t j r idle (is1 ∙ mine)))
           (λ other. first_outcome false s.words (both_false (eqb found1 0) (eqb found1 (pack1 j.label)) (ne_eqb found1 0 taken) (ne_eqb found1 (pack1 j.label) other))
           (passed s g id v at p was c t j r ((λ e. taken (sym is1 ∙ e)), λ e. absurd (other (sym is1 ∙ e))) (λ a b _. idle (second_at a b)) (λ a. idle (adding_at a)) (λ a b. idle (pending_at a b))))))
 
@@ -97,7 +94,7 @@ module _ (s : State) (g : IsGood s) (id : ℕ) (v : HookView) (at : slice_get s.
           (second_outcome true (set s.words place2 (pack2 j.label)) (either_true (eqb found2 0) (eqb found2 (pack2 j.label)) (eq-eqb found2 0 free)) (second_took s g id v at p was2 c t j ready2 here st2.6 (is2 ∙ free))))
           (λ taken. subst (λ (us : List ℕ). IsGood (after_change s id (second_found s.rows v p c j t found2) us)) (sym (claims_taken s.words place2 (pack2 j.label) taken))
           (dite (ℕ_discrete found2 (pack2 j.label))
-          (λ mine. second_outcome true s.words (or_true (eqb found2 0) (eqb found2 (pack2 j.label)) (eq-eqb found2 (pack2 j.label) mine)) (second_mine s g id v at p was2 c t j ready2 here st2.6 (is2 ∙ mine)))
+          (λ mine. second_outcome true s.words (or_right (eqb found2 0) (eqb found2 (pack2 j.label)) (eq-eqb found2 (pack2 j.label) mine)) (second_mine s g id v at p was2 c t j ready2 here st2.6 (is2 ∙ mine)))
           (λ other. second_outcome false s.words (both_false (eqb found2 0) (eqb found2 (pack2 j.label)) (ne_eqb found2 0 taken) (ne_eqb found2 (pack2 j.label) other))
           (second_passed s g id v at p was2 c t j ready2 here st2.6 (λ e. taken (sym is2 ∙ e)) (λ e. other (sym is2 ∙ e))))))
 

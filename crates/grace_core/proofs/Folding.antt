@@ -14,7 +14,8 @@ use Rattle.row_probe.proofs.Packing.{pack2-ne-zero, unpack-pack, unpack_tells}
 use Rattle.grace_core.specs.Machine.{amount_of_row, row_with, row_at, rows_in}
 use Rattle.grace_core.specs.Sums.{Measure, landed, packets, bytes}
 use Rattle.grace_core.specs.Rows.{cell, Has, RowsAreGood, packets_in, bytes_in, row_is, row_packets, row_bytes, Folds}
-use Rattle.grace_core.proofs.Keys.{same_label-refl, same_true}
+use Rattle.acct_base.proofs.Keys.{label_self}
+use Rattle.grace_core.proofs.Keys.{same_true}
 use Rattle.grace_core.proofs.RowSteps.{one_row, yes_or_no}
 use Rattle.grace_core.proofs.Weights.{on, off}
 
@@ -85,21 +86,21 @@ module _ (rows : ℕ) (ws : List ℕ) (sums : Measure → ℕ) (ok : RowsAreGood
   pub rows_once : (l : Label) → IsValidLabel l → sum_by (row_is l) (rows_in rows ws) ≤ 1
   rows_once l is = dite (ℕ_discrete (sums (landed l)) 0)
       (λ z. let e = absent l is (row_is l) (λ r h. off (same_label r.label l) 1 h) rows (omega arith) (λ i li h. let u = ok.used i l li is h in absurd (omega arith)) in omega arith)
-      (λ ne. let h = ok.placed l is (omega arith) in let e = present l is (row_is l) (λ r e. off (same_label r.label l) 1 e) rows h.0 (omega arith) h.1 h.2 in let o = on (same_label l l) 1 (same_label-refl l) in omega arith)
+      (λ ne. let h = ok.placed l is (omega arith) in let e = present l is (row_is l) (λ r e. off (same_label r.label l) 1 e) rows h.0 (omega arith) h.1 h.2 in let o = on (same_label l l) 1 (label_self l) in omega arith)
 
   pub folds : ((l : Label) (e : ℕ) → sums (landed l) ≡ 0 → (sums (packets l e) ≡ 0) × (sums (bytes l e) ≡ 0)) → (list : List Row) → IsPermutation (rows_in rows ws) list → Folds rows list sums
   folds law list p = let off_label : (l : Label) (r : Row) (x : ℕ) → same_label r.label l ≡ false → cond (same_label r.label l) x 0 ≡ 0 = λ l r x e. off (same_label r.label l) x e in
       let none : (l : Label) → IsValidLabel l → sums (landed l) ≡ 0 → (i : ℕ) → i < rows → Has ws i l → ⊥ = λ l is z i li h. let u = ok.used i l li is h in omega arith in record {
         valid = All-permutation (λ (r : Row). IsValidLabel r.label) (rows_in rows ws) list p (valids rows (omega arith));
-        once = λ l is m. let h = ok.placed l is m in sum_by-IsPermutation (row_is l) (rows_in rows ws) list p ∙ (present l is (row_is l) (λ r e. off_label l r 1 e) rows h.0 (omega arith) h.1 h.2 ∙ on (same_label l l) 1 (same_label-refl l));
+        once = λ l is m. let h = ok.placed l is m in sum_by-IsPermutation (row_is l) (rows_in rows ws) list p ∙ (present l is (row_is l) (λ r e. off_label l r 1 e) rows h.0 (omega arith) h.1 h.2 ∙ on (same_label l l) 1 (label_self l));
         never = λ l is z. sum_by-IsPermutation (row_is l) (rows_in rows ws) list p ∙ absent l is (row_is l) (λ r e. off_label l r 1 e) rows (omega arith) (none l is z);
         packets_are = λ l e is le. sum_by-IsPermutation (row_packets l e) (rows_in rows ws) list p ∙ dite (ℕ_discrete (sums (landed l)) 0)
             (λ z. absent l is (row_packets l e) (λ r h. off_label l r (packets_in r.amount e) h) rows (omega arith) (none l is z) ∙ sym (law l e z).0)
-            (λ ne. let h = ok.placed l is (omega arith) in present l is (row_packets l e) (λ r h. off_label l r (packets_in r.amount e) h) rows h.0 (omega arith) h.1 h.2 ∙ (on (same_label l l) (packets_in (row_of l ws h.0).amount e) (same_label-refl l)
+            (λ ne. let h = ok.placed l is (omega arith) in present l is (row_packets l e) (λ r h. off_label l r (packets_in r.amount e) h) rows h.0 (omega arith) h.1 h.2 ∙ (on (same_label l l) (packets_in (row_of l ws h.0).amount e) (label_self l)
             ∙ (packets_of l ws h.0 e le ∙ (ok.packets_are h.0 e l h.1 is h.2 le ∙ omega arith))));
         bytes_are = λ l e is le. sum_by-IsPermutation (row_bytes l e) (rows_in rows ws) list p ∙ dite (ℕ_discrete (sums (landed l)) 0)
             (λ z. absent l is (row_bytes l e) (λ r h. off_label l r (bytes_in r.amount e) h) rows (omega arith) (none l is z) ∙ sym (law l e z).1)
-            (λ ne. let h = ok.placed l is (omega arith) in present l is (row_bytes l e) (λ r h. off_label l r (bytes_in r.amount e) h) rows h.0 (omega arith) h.1 h.2 ∙ (on (same_label l l) (bytes_in (row_of l ws h.0).amount e) (same_label-refl l)
+            (λ ne. let h = ok.placed l is (omega arith) in present l is (row_bytes l e) (λ r h. off_label l r (bytes_in r.amount e) h) rows h.0 (omega arith) h.1 h.2 ∙ (on (same_label l l) (bytes_in (row_of l ws h.0).amount e) (label_self l)
             ∙ (bytes_of l ws h.0 e le ∙ ok.bytes_are h.0 e l h.1 is h.2 le)));
         filled = λ l is m. let full : (i : ℕ) → i < rows → cell ws i 1 ≢ 0 = λ i li z. let c = ok.claimed i li (ok.filled l is m i li).0 z in omega arith in (
           (let a = counts (rows_in rows ws) in let b = counts list in let c = sum_by-IsPermutation (λ (r : Row). 1) (rows_in rows ws) list p in let d = lengths rows (omega arith) full in omega arith),

@@ -3,6 +3,7 @@ use Rattle.std.proofs.Common.{◌≡◌, ◌≢◌, ℕ, ◌+◌, ◌/◌, ◌<�
 use Rattle.std.specs.Prelude.{Option, Some, slice_get, nat_lt, nat_le, option_and_then}
 use Rattle.std.proofs.lemmas.Bool.Decides.{nat_tests}
 use Rattle.std.proofs.lemmas.List.{set-append_left, get_or_append_left}
+use Rattle.std.proofs.lemmas.Bool.{and_parts}
 use Rattle.acct_base.specs.declared.charge.Job.{Job}
 use Rattle.acct_base.specs.Amounts.{IsValidLabel}
 use Rattle.row_probe.specs.Keys.{pack1}
@@ -18,7 +19,6 @@ use Rattle.grace_core.specs.Turns.{turn_at, first_turn}
 use Rattle.grace_core.specs.Sums.{share}
 use Rattle.grace_core.specs.Good.{IsGood}
 use Rattle.grace_core.proofs.Items.{at_or, at_below, sum_part, some-ne-none}
-use Rattle.grace_core.proofs.Keys.{both_true}
 use Rattle.grace_core.proofs.Bounds.{made_below}
 use Rattle.grace_core.proofs.Quiet.{room_exit}
 use Rattle.grace_core.proofs.Events.{standing, packets_fit, bytes_fit}
@@ -76,7 +76,7 @@ module _ (s : State) (g : IsGood s) (id : ℕ) (v : HookView) (at : slice_get s.
   -- ---- ClaimFirst
 
   label_by : (j : Job) (t : Turn) (a : At) → v.at ≡ a → first_turn j a ≡ Some t → IsValidLabel t.job.label
-  label_by j t (Inside p c) here e = let k = passes (nat_lt c 2 && is_valid_job j) (turn_at p c j 0) t e in subst (λ (z : Turn). IsValidLabel z.job.label) k.1 (valid_job j (both_true (nat_lt c 2) (is_valid_job j) k.0).1).label
+  label_by j t (Inside p c) here e = let k = passes (nat_lt c 2 && is_valid_job j) (turn_at p c j 0) t e in subst (λ (z : Turn). IsValidLabel z.job.label) k.1 (valid_job j (and_parts (nat_lt c 2) (is_valid_job j) k.0).1).label
   label_by j t (First p c own u) here e = let k = passes (same_job own j) (turn_at p c own u) t e in subst (λ (z : Turn). IsValidLabel z.job.label) k.1 (standing s g id v at p c own (First p c own u) here).3.label
   label_by j t _ here e = absurd (some-ne-none t (sym e))
 

@@ -3,7 +3,7 @@ use Rattle.std.proofs.Common.{◌≡◌, ◌≢◌, ℕ, ◌+◌, ◌*◌, ◌/�
 use Rattle.std.specs.declared.alloc.AllocError.{AllocError}
 use Rattle.std.specs.Prelude.{Option, None, Some, Result, Ok, Err, IfOk, OnErr, slice_get, nat_lt, nat_le, option_and_then}
 use Rattle.std.proofs.lemmas.Bool.Decides.{nat_tests}
-use Rattle.std.proofs.lemmas.Bool.{eqb-true}
+use Rattle.std.proofs.lemmas.Bool.{eqb-true, and_parts}
 use lib.ListN.{length-replicate}
 use Rattle.acct_base.specs.declared.charge.Job.{Job}
 use Rattle.acct_base.specs.declared.label.Label.{Label}
@@ -20,7 +20,6 @@ use Rattle.grace_core.specs.Machine.{IsValidJob, is_chargeable, is_valid_job, sa
 use Rattle.grace_core.specs.Sums.{weight}
 use Rattle.grace_core.specs.Good.{StageIsGood, WaitingIsGood, DrainingIsGood, IsGood}
 use Rattle.grace_core.proofs.Items.{some-injective, some-ne-none}
-use Rattle.grace_core.proofs.Keys.{both_true}
 use Rattle.grace_core.proofs.Within.{In}
 use Rattle.grace_core.proofs.Quiet.{keeps_enter, keeps_exit}
 use Rattle.grace_core.proofs.Events.{standing, keeps_first_claim, keeps_second_claim, keeps_add_packets, keeps_add_bytes}
@@ -47,10 +46,10 @@ pub le_from : (a b : ℕ) → nat_le a b ≡ true → a ≤ b
 le_from a b e = grind (arith, nat_tests)
 
 pub valid_label : (l : Label) → is_valid_label l ≡ true → IsValidLabel l
-valid_label l e = let a = both_true (nat_lt l.uid 4294967295 && nat_lt l.tag (2 ^ 32) && nat_le l.set 1 && nat_le 1 l.iface) (nat_le l.iface 16777215) e in
-    let b = both_true (nat_lt l.uid 4294967295 && nat_lt l.tag (2 ^ 32) && nat_le l.set 1) (nat_le 1 l.iface) a.0 in
-    let c = both_true (nat_lt l.uid 4294967295 && nat_lt l.tag (2 ^ 32)) (nat_le l.set 1) b.0 in
-    let d = both_true (nat_lt l.uid 4294967295) (nat_lt l.tag (2 ^ 32)) c.0 in record {
+valid_label l e = let a = and_parts (nat_lt l.uid 4294967295 && nat_lt l.tag (2 ^ 32) && nat_le l.set 1 && nat_le 1 l.iface) (nat_le l.iface 16777215) e in
+    let b = and_parts (nat_lt l.uid 4294967295 && nat_lt l.tag (2 ^ 32) && nat_le l.set 1) (nat_le 1 l.iface) a.0 in
+    let c = and_parts (nat_lt l.uid 4294967295 && nat_lt l.tag (2 ^ 32)) (nat_le l.set 1) b.0 in
+    let d = and_parts (nat_lt l.uid 4294967295) (nat_lt l.tag (2 ^ 32)) c.0 in record {
       uid = lt_from l.uid 4294967295 d.0;
       tag = lt_from l.tag (2 ^ 32) d.1;
       set = le_from l.set 1 c.1;
@@ -59,8 +58,8 @@ valid_label l e = let a = both_true (nat_lt l.uid 4294967295 && nat_lt l.tag (2 
     }
 
 pub valid_job : (j : Job) → is_valid_job j ≡ true → IsValidJob j
-valid_job j e = let a = both_true (is_valid_label j.label && is_chargeable j.packets) (is_chargeable j.bytes) e in let b = both_true (is_valid_label j.label) (is_chargeable j.packets) a.0 in
-    let c = both_true (nat_le 1 j.packets) (nat_le j.packets 524287) b.1 in let d = both_true (nat_le 1 j.bytes) (nat_le j.bytes 524287) a.1 in record {
+valid_job j e = let a = and_parts (is_valid_label j.label && is_chargeable j.packets) (is_chargeable j.bytes) e in let b = and_parts (is_valid_label j.label) (is_chargeable j.packets) a.0 in
+    let c = and_parts (nat_le 1 j.packets) (nat_le j.packets 524287) b.1 in let d = and_parts (nat_le 1 j.bytes) (nat_le j.bytes 524287) a.1 in record {
       label = valid_label j.label b.0;
       amount = record {
         some_packets = le_from 1 j.packets c.0;
@@ -87,7 +86,7 @@ module _ (s : State) (g : IsGood s) (id : ℕ) (v : HookView) (at : slice_get s.
   enter_step _ out e = absurd (some-ne-none s' (sym e))
 
   first_step : (j : Job) (a : At) → v.at ≡ a → first_claim s id v j a ≡ Some s' → IsGood s'
-  first_step j (Inside p c) here e = let t = passes (nat_lt c 2 && is_valid_job j) (claim_first s id v p c j 0) s' e in let b = both_true (nat_lt c 2) (is_valid_job j) t.0 in
+  first_step j (Inside p c) here e = let t = passes (nat_lt c 2 && is_valid_job j) (claim_first s id v p c j 0) s' e in let b = and_parts (nat_lt c 2) (is_valid_job j) t.0 in
       let st = standing s g id v at p c j (Inside p c) here in let size = g.size.0 in subst IsGood t.1 (keeps_first_claim s g id v at p c j 0 (subst (In p) (sym here) refl) (λ q. ap (λ (y : At). weight s.rows p y q) here)
       record { phase = st.0; few = lt_from c 2 b.0; room = st.2; job = valid_job j b.1; turn = omega arith; tried = λ u lu. absurd (omega arith) })
   first_step j (First p c own t) here e = let k = passes (same_job own j) (claim_first s id v p c own t) s' e in

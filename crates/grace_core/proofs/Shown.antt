@@ -28,10 +28,9 @@ use Rattle.grace_core.specs.Rows.{row_is, row_packets, row_bytes, packets_in, by
 use Rattle.grace_core.specs.Good.{side, ViewIsGood, EachView, SnapshotIsGood, IsGood}
 use Rattle.grace_core.specs.Phases.{IsSnapshotOf}
 use Rattle.grace_core.proofs.Items.{at_or, at_below, sum_part, sum_none, each_append, some-ne-none}
-use Rattle.grace_core.proofs.Keys.{same_label-refl, same_label-true}
+use Rattle.acct_base.proofs.Keys.{label_same, label_self, label_total}
 use Rattle.grace_core.proofs.RowSteps.{yes_or_no}
 use Rattle.grace_core.proofs.Weights.{on, off, on_both}
-use Rattle.grace_core.proofs.Ascending.{label_cmp_total}
 use Rattle.grace_core.proofs.Keeps.{valid_label}
 
 -- ---- lists
@@ -121,7 +120,7 @@ tested_valid : (l : Label) → IsValidLabel l → is_valid_label l ≡ true
 tested_valid l v = λ i. less l.uid 4294967295 v.uid i && less l.tag 4294967296 v.tag i && most l.set 1 v.set i && most 1 l.iface v.some_iface i && most l.iface 16777215 v.iface i
 
 other_label : (k l : Label) → IsValidLabel k → is_valid_label l ≡ false → same_label k l ≡ false
-other_label k l v e = yes_or_no (same_label k l) (λ h. absurd (true≢false (sym (subst (λ (z : Label). is_valid_label z ≡ true) (same_label-true k l h) (tested_valid k v)) ∙ e))) (λ h. h)
+other_label k l v e = yes_or_no (same_label k l) (λ h. absurd (true≢false (sym (subst (λ (z : Label). is_valid_label z ≡ true) (label_same k l h) (tested_valid k v)) ∙ e))) (λ h. h)
 
 -- ---- tests and sums
 
@@ -151,7 +150,7 @@ no_label l (r ∷ rows) e = let s = sum_by-cons (row_is l) r rows in yes_or_no (
 
 apart_by_order : (a : Label) (ls : List Label) → AllByRecursion (λ b. label_cmp a b ≡ Less) ls → AllByRecursion (λ b. same_label a b ≡ false) ls
 apart_by_order a [] h = tt
-apart_by_order a (b ∷ ls) h = (yes_or_no (same_label a b) (λ e. absurd (let same = same_label-true a b e in let less_itself : label_cmp a a ≡ Less = subst (λ (z : Label). label_cmp a z ≡ Less) (sym same) h.0 in let tied = tied_itself label_cmp_total a in differ (sym less_itself ∙ tied))) (λ e. e), apart_by_order a ls h.1)
+apart_by_order a (b ∷ ls) h = (yes_or_no (same_label a b) (λ e. absurd (let same = label_same a b e in let less_itself : label_cmp a a ≡ Less = subst (λ (z : Label). label_cmp a z ≡ Less) (sym same) h.0 in let tied = tied_itself label_total a in differ (sym less_itself ∙ tied))) (λ e. e), apart_by_order a ls h.1)
 
 distinct_labels : (ls : List Label) → IsStrictlySortedBy label_cmp ls → IsDistinct same_label ls
 unfolding IsStrictlySortedBy IsDistinct
@@ -198,12 +197,12 @@ module _ (s : State) (g : IsGood s) (n : ℕ) (rows : List Row) (good : Snapshot
 
   its_landed : (k : ℕ) (r : Row) → slice_get rows k ≡ Some r → list_any (lands_at n r.label) (charges_of s.hooks) ≡ true
   its_landed k r e = let t = tally-charges n (landed r.label) s.hooks in dite (ℕ_discrete (tally n s.hooks (landed r.label)) 0)
-      (λ z. absurd (let one = on (same_label r.label r.label) 1 (same_label-refl r.label) in let p = sum_part (row_is r.label) rows k r e in let none = f.never r.label (its_valid k r e) z in omega arith))
+      (λ z. absurd (let one = on (same_label r.label r.label) 1 (label_self r.label) in let p = sum_part (row_is r.label) rows k r e in let none = f.never r.label (its_valid k r e) z in omega arith))
       (λ ne. landed_any n r.label cs (omega arith))
 
   its_full : (k : ℕ) (c : Charge) → slice_get (charges_of s.hooks) k ≡ Some c → c.phase ≡ n → c.landed ≡ false → (length rows ≡ s.rows) × (has_label rows c.job.label ≡ false)
   its_full k c e ph not_landed = let l : Label = c.job.label in let t = tally-charges n (missed l) s.hooks in let p = sum_part (measure n (missed l)) cs k c e in
-      let one : measure n (missed l) c ≡ 1 = on (not c.landed && (c.phase == n && same_label l l)) 1 (on_both (not c.landed) (c.phase == n && same_label l l) (ap not not_landed) (on_both (c.phase == n) (same_label l l) (eq-eqb c.phase n ph) (same_label-refl l))) in
+      let one : measure n (missed l) c ≡ 1 = on (not c.landed && (c.phase == n && same_label l l)) 1 (on_both (not c.landed) (c.phase == n && same_label l l) (ap not not_landed) (on_both (c.phase == n) (same_label l l) (eq-eqb c.phase n ph) (label_self l))) in
       let h = f.filled l (valid_charge k c e).label (omega arith) in (h.0, no_label l rows h.1)
 
   pub holds_charges : HoldsCharges (charges_of s.hooks) n rows

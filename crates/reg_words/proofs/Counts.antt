@@ -26,7 +26,7 @@ use Rattle.reg_words.specs.Places.{NeverWritten}
 use Rattle.reg_words.specs.Rule.{no_limits}
 use Rattle.reg_words.proofs.Truths.{never_last, last_never}
 use Rattle.reg_words.proofs.Keeps.{some_std, none_std}
-use Rattle.reg_words.proofs.Ascending.{distinct_ascending, distinct_next}
+use Rattle.acct_base.proofs.Ascending.{distinct_ascending}
 use Rattle.acct_base.proofs.DistinctLemmas.{distinct_is, distinct_at_most}
 use Rattle.acct_base.proofs.Members.{or_right, mem_at, at_mem, no_twice, nonzero, nonzero_mem, nonzero_short, nonzero_once}
 use Rattle.row_probe.specs.Places.{place}
@@ -242,6 +242,20 @@ module _ (c : ℕ) where
       one (Set d) v rest = rest
       one (Owner d) v rest = ap (λ (xs : List ℕ). (d + 1) ∷ xs) rest
       one Enabled v rest = rest
+
+nat_eq_next : (a b : ℕ) → nat_eq (a + 1) (b + 1) ≡ nat_eq a b
+nat_eq_next a b = dite (ℕ_discrete a b)
+    (λ (e : a ≡ b). eq-eqb (a + 1) (b + 1) (ap (λ (n : ℕ). n + 1) e) ∙ sym (eq-eqb a b e))
+    (λ ne. ne_eqb (a + 1) (b + 1) (λ e. ne (omega arith)) ∙ sym (ne_eqb a b ne))
+
+mem_next : (x : ℕ) (xs : List ℕ) → mem (x + 1) (map (λ (n : ℕ). n + 1) xs) ≡ mem x xs
+mem_next x [] = refl
+mem_next x (y ∷ ys) = λ i. nat_eq_next y x i || mem_next x ys i
+
+-- numbers that are all greater by 1 are as many
+distinct_next : (xs : List ℕ) → distinct (map (λ (n : ℕ). n + 1) xs) ≡ distinct xs
+distinct_next [] = refl
+distinct_next (x ∷ xs) = λ i. cond (mem_next x xs i) 0 1 + distinct_next xs i
 
 some_in : (xs : List ℕ) → distinct xs ≡ 1 → (x : ℕ) × (mem x xs ≡ true)
 some_in [] e = absurd (omega arith)

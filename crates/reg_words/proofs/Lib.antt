@@ -1,6 +1,5 @@
 pub mod Prefixes
 pub mod Spots
 pub mod Keeps
-pub mod Ascending
 pub mod Truths
 pub mod Counts

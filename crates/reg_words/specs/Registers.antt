@@ -1,5 +1,5 @@
 -- What the calls of the registers promise, in the words of the journal.
-use Rattle.std.specs.Prelude.{◌≡◌, ℕ, zero, List, [], ◌∷◌, ◌++◌, length, Some}
+use Rattle.std.specs.Prelude.{◌≡◌, zero, List, [], ◌∷◌, ◌++◌, length, Some}
 use Rattle.acct_base.specs.declared.register.Key.{Key}
 use Rattle.acct_base.specs.declared.register.Key.TheVariants.{Cookie}
 use Rattle.acct_base.specs.declared.register.Write.{Write}
