@@ -6,10 +6,10 @@ use Rattle.std.proofs.lemmas.Grind.{flat_map-append}
 use Rattle.acct_base.specs.declared.register.Write.{Write}
 use Rattle.acct_base.specs.declared.sizes.Sizes.{Sizes}
 use Rattle.acct_base.specs.declared.receipt.LineReceipt.{LineReceipt}
-use Rattle.acct_base.specs.Journal.{AreTrueReads, known_after}
-use Rattle.acct_base.specs.Receipts.{Call, ObeysCall, charges, app_adds, iface_adds, front_of, phase_of, reads, counted}
+use Rattle.acct_base.specs.Journal.{AreTrueReads, known_after, known_at_front, FrontIsFrom}
+use Rattle.acct_base.specs.Receipts.{Call, ObeysCall, charges, app_adds, iface_adds, front_of, phase_of, reads, counted, PhaseIsFrom}
 use Rattle.acct_base.specs.Receipts.Call.{Hook, Iface, Allow, Deny}
-use Rattle.captures.specs.Honest.{lane_pairs, lanes_pairs, known_at_front, FrontIsFrom, KnowledgeGrows, PhaseIsFrom, PhasesRise, IsHonestLane}
+use Rattle.captures.specs.Honest.{lane_pairs, lanes_pairs, KnowledgeGrows, PhasesRise, IsHonestLane}
 use Rattle.captures.specs.Runs.{Past}
 use Rattle.acct_plain.specs.Serial.{serial_line, serial_receipt, value_if, after_call, walk_lane, walk_lanes}
 use Rattle.acct_plain.proofs.Lines.{line_obeys, line_now, now_true_later, known_same}

@@ -12,9 +12,9 @@ use Rattle.acct_base.proofs.SumLemmas.{total_by-append}
 use Rattle.desk_core.specs.declared.command.Command.{Command}
 use Rattle.shelf.specs.declared.shelf.Deletion.{Deletion}
 use Rattle.shelf.specs.Shelved.{Phases}
-use Rattle.shelf.specs.Phases.{deleted_app}
+use Rattle.shelf.specs.Phases.{deleted_app, uid_of}
 use Rattle.captures.specs.Calls.{SectionCalls, IsSectionInRange}
-use Rattle.captures.specs.Honest.{AppIsBounded, IsHonestLane, lanes_pairs, collections, commands_of, uid_of}
+use Rattle.captures.specs.Honest.{AppIsBounded, IsHonestLane, lanes_pairs, collections, commands_of}
 use Rattle.captures.specs.Runs.{Past, SectionRan, Ran, Closed, nothing_yet, RunIsHonest}
 use Rattle.acct_plain.specs.Serial.{walk_lanes, walk_desk, walk_section, walk_sections, live_snapshot, totals_from}
 use Rattle.acct_plain.specs.Laws.{SerialIsHonest}

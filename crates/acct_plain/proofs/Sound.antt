@@ -18,16 +18,17 @@ use Rattle.desk_core.specs.declared.command.Command.{Command}
 use Rattle.desk_core.specs.declared.command.Command.TheVariants as command
 use Rattle.desk_core.specs.Commands.{reply, is_done, collects, after_command, writes}
 use Rattle.shelf.specs.declared.shelf.Deletion.{Deletion}
-use Rattle.shelf.specs.Phases.{deleted_app}
+use Rattle.shelf.specs.Phases.{deleted_app, IsShelved}
 use Rattle.desk_core.specs.Ranges.{IsInRange}
 use Rattle.captures.specs.Calls.{SectionCalls, IsSectionInRange}
 use Rattle.acct_base.specs.Ranges.{IsCallInRange}
-use Rattle.captures.specs.Runs.{Past, IsShelved, nothing_yet}
+use Rattle.captures.specs.Runs.{Past, nothing_yet}
 use Rattle.captures.proofs.Lists.{all_append, all_more, place_left, place_right}
 use Rattle.acct_plain.specs.Serial.{serial_line, after_call, after_desk_line, live_snapshot, ended_phase, with_phase, rows_from, walk_lane, walk_lanes, walk_desk, walk_section}
 use Rattle.acct_base.specs.Landings.{LandInTurn, AddInTurn}
 use Rattle.acct_base.proofs.Keys.{plus_zero}
-use Rattle.acct_plain.proofs.Turns.{in_phase, land_append, add_append}
+use Rattle.acct_plain.proofs.Turns.{in_phase}
+use Rattle.acct_base.proofs.TurnLemmas.{land_append, add_append}
 use Rattle.acct_plain.proofs.Lines.{charges_in_turn, apps_in_turn, ifaces_in_turn, charges_now}
 use Rattle.acct_plain.proofs.Valid.{charges_valid, writes_sound}
 use Rattle.acct_plain.proofs.Desk.{deleted_within}

@@ -11,9 +11,8 @@ use Rattle.acct_base.specs.declared.label.Label.{Label}
 use Rattle.acct_base.specs.declared.charge.Charge.{Charge}
 use Rattle.acct_base.specs.Amounts.{label_cmp, same_label, labels_of, IsValidLabel, plus, zero_amount, total_by, amount_if}
 use Rattle.acct_base.specs.Receipts.{Add, charge_amount, add_amount}
-use Rattle.acct_base.specs.Sums.{lands_at, lands_on, folded, added, has_key, total_keys, FullWasMet, AreTotals}
+use Rattle.acct_base.specs.Sums.{lands_at, lands_on, folded, added, has_key, total_keys, FullWasMet, AreTotals, HoldsPhase}
 use Rattle.acct_base.proofs.SumLemmas.{zero_plus}
-use Rattle.captures.specs.Runs.{HoldsPhase}
 use Rattle.captures.proofs.Lists.{all_filter}
 use Rattle.acct_plain.specs.Serial.{rows_from, totals_from}
 use Rattle.acct_base.specs.Landings.{landed_labels, landed_keys, same_number}

@@ -13,8 +13,7 @@ use Rattle.acct_base.specs.Amounts.{same_label, label_cmp}
 use Rattle.acct_base.specs.Ordered.{insert_once, ascending}
 use Rattle.acct_base.specs.Receipts.{Add}
 use Rattle.captures.proofs.Lists.{all_append, all_more}
-use Rattle.acct_base.specs.Landings.{finds_room, landed_labels, same_number}
-use Rattle.acct_base.specs.Landings.{LandInTurn, AddInTurn}
+use Rattle.acct_base.specs.Landings.{finds_room, landed_labels, same_number, LandInTurn, AddInTurn}
 use Rattle.acct_base.proofs.Keys.{Agree, has, decided, eqb_same, ascending_sorted, ascending_more, inserted_there, inserted_long, label_agree, nat_agree}
 
 no_room : {K : Type 0} (eq : K → K → Bool) (size : ℕ) (ts : List K) (k : K) → finds_room eq size ts k ≡ false → (has eq ts k ≡ false) × (size ≤ length ts)
@@ -114,11 +113,6 @@ charges_facts size n before (c ∷ cs) f t =
     subst (PhaseFacts size n) (append_assoc before (c ∷ []) cs)
     (charges_facts size n (before ++ c ∷ []) cs (facts_more label_cmp same_label label_agree (λ (c : Charge). c.job.label) (in_phase n) (NotLanded n) size before c f (charge_took size n before c t.0)) t.1)
 
-pub land_append : (size : ℕ) (before xs ys : List Charge) → LandInTurn size before xs → LandInTurn size (before ++ xs) ys → LandInTurn size before (xs ++ ys)
-land_append size before [] ys h k = subst (λ (cs : List Charge). LandInTurn size cs ys) (append-nil before) k
-land_append size before (x ∷ xs) ys h k =
-    (h.0, land_append size (before ++ x ∷ []) xs ys h.1 (subst (λ (cs : List Charge). LandInTurn size cs ys) (sym (append_assoc before (x ∷ []) xs)) k))
-
 -- ---- adds
 
 abbrev pub AddFacts : ℕ → List Add → Type 0
@@ -130,8 +124,3 @@ adds_facts size before (a ∷ adds) f t =
     subst (AddFacts size) (append_assoc before (a ∷ []) adds)
     (adds_facts size (before ++ a ∷ []) adds
     (facts_more nat_cmp same_number nat_agree (λ (a : Add). a.key) (λ (a : Add). a.landed) (λ (a : Add). a.landed ≡ false) size before a f (record { takes = λ e. sym t.0 ∙ e; refused = λ e. sym t.0 ∙ e })) t.1)
-
-pub add_append : (size : ℕ) (before xs ys : List Add) → AddInTurn size before xs → AddInTurn size (before ++ xs) ys → AddInTurn size before (xs ++ ys)
-add_append size before [] ys h k = subst (λ (cs : List Add). AddInTurn size cs ys) (append-nil before) k
-add_append size before (x ∷ xs) ys h k =
-    (h.0, add_append size (before ++ x ∷ []) xs ys h.1 (subst (λ (cs : List Add). AddInTurn size cs ys) (sym (append_assoc before (x ∷ []) xs)) k))

@@ -17,9 +17,9 @@ use Rattle.desk_core.specs.Commands.{after_command, after_commands}
 use Rattle.shelf.specs.declared.shelf.Deletion.{Deletion}
 use Rattle.shelf.specs.Shelved.{Phases}
 use Rattle.shelf.specs.declared.report.SectionOut.{SectionOut}
-use Rattle.shelf.specs.Phases.{deleted_app}
+use Rattle.shelf.specs.Phases.{deleted_app, uid_of}
 use Rattle.captures.specs.Calls.{SectionCalls}
-use Rattle.captures.specs.Honest.{SectionsAreHonest, IsCollected, AppIsBounded, Collection, collections_of, commands_of, section_pairs, all_pairs, uid_of}
+use Rattle.captures.specs.Honest.{SectionsAreHonest, IsCollected, AppIsBounded, Collection, collections_of, commands_of, section_pairs, all_pairs}
 use Rattle.captures.specs.Runs.{Past, SectionRan, Ran, done_in}
 use Rattle.captures.proofs.Lists.{place_left, place_right}
 

@@ -13,8 +13,8 @@ use Rattle.acct_base.specs.declared.sizes.RegSizes.{RegSizes}
 use Rattle.acct_base.specs.declared.amount.Snapshot.{Snapshot}
 use Rattle.acct_base.specs.declared.receipt.LineReceipt.{LineReceipt}
 use Rattle.acct_base.specs.Amounts.{IsAtMost}
-use Rattle.acct_base.specs.Journal.{AreTrueReads, known_after}
-use Rattle.acct_base.specs.Receipts.{Call, Add, ObeysCall, charges, app_adds, iface_adds, front_of, reads, phase_of}
+use Rattle.acct_base.specs.Journal.{AreTrueReads, known_after, known_at_front, FrontIsFrom}
+use Rattle.acct_base.specs.Receipts.{Call, Add, ObeysCall, charges, app_adds, iface_adds, front_of, reads, phase_of, PhaseIsFrom}
 use Rattle.acct_base.specs.Sums.{added, AreTotals}
 use Rattle.desk_core.specs.declared.command.Command.{Command}
 use Rattle.desk_core.specs.declared.command.Command.TheVariants.{Delete}
@@ -22,7 +22,7 @@ use Rattle.desk_core.specs.Commands.{reply, replies, is_done, after_command, aft
 use Rattle.shelf.specs.declared.shelf.Deletion.{Deletion}
 use Rattle.shelf.specs.declared.report.SectionOut.{SectionOut}
 use Rattle.shelf.specs.Shelved.{Phases}
-use Rattle.shelf.specs.Phases.{IsConserved, FullIsShown, is_deleted, deleted_app}
+use Rattle.shelf.specs.Phases.{IsConserved, FullIsShown, is_deleted, deleted_app, uid_of}
 use Rattle.shelf.specs.Shown.{Shown}
 use Rattle.captures.specs.Calls.{SectionCalls, Asked}
 
@@ -62,15 +62,6 @@ commands_of c = map line_item c.desk
 
 -- ---- a lane
 
--- How many writes are known after a receipt's front, where it tells one.
-abbrev pub known_at_front : ℕ → Option ℕ → ℕ
-known_at_front known front = unwrap_or front known
-
--- A front is no less than what was known.
-abbrev pub FrontIsFrom : ℕ → Option ℕ → Type 0
-FrontIsFrom known None = Unit {0}
-FrontIsFrom known (Some front) = known ≤ front
-
 -- A lane that knew of so many writes never knows less later on: each front is no less than what was known and is known from then
 -- on, each read is true of the journal by what was known, and in the end no more is known than the journal has.
 abbrev pub KnowledgeGrows : List Write → ℕ → List (Call × LineReceipt) → Type 0
@@ -79,11 +70,6 @@ KnowledgeGrows journal known (p ∷ ps) =
     let known_then = known_at_front known (front_of p.1) in
     FrontIsFrom known (front_of p.1) × AreTrueReads journal known_then (reads p)
     × KnowledgeGrows journal (known_after known_then (reads p)) ps
-
--- A phase, where there is one, is no less than another.
-abbrev pub PhaseIsFrom : ℕ → Option ℕ → Type 0
-PhaseIsFrom phase None = Unit {0}
-PhaseIsFrom phase (Some later) = phase ≤ later
 
 -- Along a lane the phases never fall, from one phase up to another.
 abbrev pub PhasesRise : ℕ → ℕ → List (Call × LineReceipt) → Type 0
@@ -182,11 +168,6 @@ pub record IsBetween (c : Collection) (uid : ℕ) (recorded : Amount) : Type 0 w
 abbrev pub AppIsBounded : Collection → Amount → Option Deletion → Type 0
 AppIsBounded c recorded None = Unit {0}
 AppIsBounded c recorded (Some d) = is_some d.app ≡ true → IsBetween c d.uid recorded
-
--- The uid of a deletion, where there is one.
-abbrev pub uid_of : Option Deletion → ℕ
-uid_of None = 0
-uid_of (Some d) = d.uid
 
 -- Phase n ended as its collection says.
 pub record IsCollected (phases : Phases) (n : ℕ) (c : Collection) (p : Snapshot × Option Deletion) : Type 0 where

@@ -23,9 +23,9 @@ use Rattle.desk_core.specs.declared.command.Command.{Command}
 use Rattle.desk_core.specs.Commands.{reply, collects, is_done, after_command}
 use Rattle.shelf.specs.declared.shelf.Deletion.{Deletion}
 use Rattle.shelf.specs.Shelved.{Phases}
-use Rattle.shelf.specs.Phases.{is_deleted, deleted_app, snapshot_rows, kept_rows}
+use Rattle.shelf.specs.Phases.{is_deleted, deleted_app, snapshot_rows, kept_rows, IsShelved}
 use Rattle.captures.specs.Calls.{SectionCalls, Asked, IsSectionInRange, IsAskedInRange}
-use Rattle.captures.specs.Runs.{Past, IsShelved, nothing_yet}
+use Rattle.captures.specs.Runs.{Past, nothing_yet}
 use Rattle.captures.proofs.Lists.{all_append}
 use Rattle.acct_plain.specs.Serial.{serial, serial_line, serial_receipt, after_call, after_desk_line, live_snapshot, ended_phase, with_phase, rows_from, walk_lane, walk_lanes, walk_desk, walk_section, walk_sections}
 use Rattle.acct_plain.specs.Kept.{IsSmall}

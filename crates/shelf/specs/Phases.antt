@@ -81,3 +81,19 @@ kept_rows phases live = snapshot_rows phases ++ live.rows
 -- the rows of one label added, ascending by label
 abbrev pub added_rows : List Row → List Row
 added_rows rows = map (λ label. record { label = label; amount = amount_at rows label }) (ascending label_cmp (labels_of rows))
+
+-- The uid of a deletion, where there is one.
+abbrev pub uid_of : Option Deletion → ℕ
+uid_of None = 0
+uid_of (Some d) = d.uid
+
+-- A deletion divides the rows of a snapshot in two.
+pub record IsDividedBy (whole snapshot : Snapshot) (d : Deletion) : Type 0 where
+  pub phase : snapshot.phase ≡ whole.phase
+  pub left : snapshot.rows ≡ filter (λ row. not (is_deleted d.uid d.tag row)) whole.rows
+  pub taken : d.rows ≡ filter (is_deleted d.uid d.tag) whole.rows
+
+-- What stands on the shelf is a whole snapshot, divided where there is a deletion.
+abbrev pub IsShelved : Snapshot → Snapshot × Option Deletion → Type 0
+IsShelved whole (snapshot, None) = snapshot ≡ whole
+IsShelved whole (snapshot, Some d) = IsDividedBy whole snapshot d
