@@ -53,9 +53,9 @@ feed_ends (y ∷ g) d (x ∷ w) lacks e = feed_ends g d w lacks.1 (cc)
 part_begins : (part x y : List ℕ) → EndsLine part → part ++ x ≡ codes "section\n" ++ y → BeginsSection part
 part_begins part x y (g, ends) e = elim (append_split part x (codes "section\n") y e) [
   | inl (d, is) ↦ (
-    let none : d ≡ [] = feed_ends g d (codes "section") word_lacks (is ∙ ap (λ (t : List ℕ). t ++ d) ends ∙ append_assoc g (10 ∷ []) d) in
-    ([], sym (append-nil part) ∙ ap (λ (t : List ℕ). part ++ t) (sym none) ∙ sym is ∙ sym (append-nil (codes "section\n")))
-  )
+      let none : d ≡ [] = feed_ends g d (codes "section") word_lacks (is ∙ ap (λ (t : List ℕ). t ++ d) ends ∙ append_assoc g (10 ∷ []) d) in
+      ([], sym (append-nil part) ∙ ap (λ (t : List ℕ). part ++ t) (sym none) ∙ sym is ∙ sym (append-nil (codes "section\n")))
+      )
   | inr (d, is) ↦ (d, is)
 ]
 
