@@ -7,7 +7,6 @@
 use Rattle.std.specs.Prelude.{◌≡◌, ℕ, suc, ◌+◌, ◌≤◌, ◌==◌, ◌&&◌, Bool, true, false, if◌then◌else◌, List, [], ◌∷◌, ◌++◌, length, map, flat_map, zip, take, slice_get, Option, None, Some, is_some, unwrap_or}
 use Rattle.std.specs.List.{AllByRecursion, AllZip}
 use Rattle.acct_base.specs.declared.amount.Amount.{Amount}
-use Rattle.acct_base.specs.declared.amount.Row.{Row}
 use Rattle.acct_base.specs.declared.register.Write.{Write}
 use Rattle.acct_base.specs.declared.sizes.RegSizes.{RegSizes}
 use Rattle.acct_base.specs.declared.amount.Snapshot.{Snapshot}

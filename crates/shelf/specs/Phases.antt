@@ -1,5 +1,5 @@
 -- Phases, and what their rows hold: for each phase and each label, the sum of the charges that landed.
-use Rattle.std.specs.Prelude.{◌≡◌, ℕ, ◌≤◌, ◌==◌, ◌&&◌, ◌||◌, unwrap_or, Bool, false, List, [], ◌++◌, length, map, slice_get, Option, None, Some, option_map}
+use Rattle.std.specs.Prelude.{◌≡◌, ℕ, ◌≤◌, ◌==◌, ◌&&◌, ◌||◌, not, filter, unwrap_or, Bool, false, List, [], ◌++◌, length, map, slice_get, Option, None, Some, option_map}
 use Rattle.std.specs.List.{AllByRecursion, flat_map}
 use Rattle.acct_base.specs.declared.amount.Amount.{Amount}
 use Rattle.acct_base.specs.declared.amount.Row.{Row}
