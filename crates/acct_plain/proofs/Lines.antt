@@ -22,7 +22,7 @@ use Rattle.acct_plain.specs.Serial.{serial_receipt, serial_line, value_if, read_
 use Rattle.acct_base.specs.Landings.{finds_room, landed_labels, landed_keys, same_number}
 use Rattle.acct_base.specs.Landings.{LandInTurn, AddInTurn}
 use Rattle.captures.proofs.Lists.{all_append}
-use Rattle.acct_plain.proofs.Turns.{land_append}
+use Rattle.acct_base.proofs.TurnLemmas.{land_append}
 
 -- ---- it obeys
 
