@@ -3,6 +3,7 @@ pub mod Cutting
 pub mod Counting
 pub mod Judging
 pub mod Arriving
+pub mod Feeding
 pub mod Telling
 pub mod LineFaults
 pub mod OneScript

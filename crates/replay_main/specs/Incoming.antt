@@ -1,5 +1,5 @@
 -- How a script comes in from a source, part by part.
-use Rattle.std.specs.Prelude.{◌≡◌, ◌⊎◌, ℕ, ◌+◌, ◌≤◌, Bool, true, false, List, [], ◌++◌, length, take, drop, Option}
+use Rattle.std.specs.Prelude.{◌≡◌, ◌⊎◌, ℕ, ◌+◌, ◌-◌, ◌≤◌, Bool, true, false, List, [], ◌++◌, length, take, drop, Option}
 use Rattle.std.specs.Io.KnownBytes.{Consumes, IsAtEnd}
 use Rattle.script_text.specs.declared.limits.Tally.{Tally}
 use Rattle.script_text.specs.declared.place.Place.TheVariants.{Next}
@@ -13,7 +13,7 @@ use Rattle.replay_main.specs.declared.fault.Fault.TheVariants as fault
 
 -- The bytes of the piece that was read last which the cutter was not fed.
 abbrev pub unfed : Parts → List ℕ
-unfed p = drop p.fed (take p.filled p.piece.items)
+unfed p = take (p.filled - p.fed) (drop p.fed p.piece.items)
 
 -- The bytes that were read and stand in no part yet.
 abbrev pub ahead : Parts → List ℕ

@@ -1,6 +1,6 @@
 //! The parts of a script, as its source gives them.
 
-ghost use Rattle.std.specs.Prelude.{◌≡◌, ◌⊎◌, ◌≤◌, [], ◌++◌, length, IfOk, OnOk, OnErr, IfSome, IfNone, IsErrOf};
+ghost use Rattle.std.specs.Prelude.{◌≡◌, ◌⊎◌, ◌+◌, ◌≤◌, ◌<◌, [], ◌++◌, length, take, Ok, IfOk, OnOk, OnErr, IfSome, IfNone, IsErrOf};
 ghost use Rattle.std.specs.Io.KnownBytes.{Consumes, IsAtEnd};
 ghost use Rattle.outside.specs.Outside.{Rose};
 ghost use Rattle.outside.specs.declared.whole.ReadError.TheVariants.{Memory};
@@ -9,7 +9,7 @@ ghost use Rattle.script_text.specs.Cuts.{EndsLine, IsUncut};
 ghost use Rattle.replay_main.specs.Incoming.{IsReader, unfed, ahead, TakesPart};
 
 use acct_base::ByteList;
-use outside::{ReadError, Source};
+use outside::{Failed, ReadError, Source};
 use script_text::{Cutter, Fed};
 use std::alloc::{AllocError, Global};
 use std::mem;
@@ -40,6 +40,19 @@ pub struct Parts {
     count: usize,
 }
 
+// Reads to the front of a piece, and at most so many bytes, and says how many. None means the end, unless none were asked for.
+fn read_front<S: Source>(source: &mut S, piece: &mut [u8], most: usize) -> Result<usize, Failed>
+    requires { most ≤ length piece.old }
+    ensures bound { IfOk result (λ n. n ≤ most) }
+    ensures size { length piece.new ≡ length piece.old }
+    ensures bytes { IfOk result (λ n. Consumes (S.left source.old) (S.left source.new) (take n piece.new)) }
+    ensures end { result ≡ Ok 0 → 0 < most → IsAtEnd (S.left source.new) }
+    ensures failed { OnErr result (Rose (S.faults source.old) (S.faults source.new)) }
+    ensures count { S.faults source.old ≤ S.faults source.new }
+{
+    source.read(&mut piece[..most])
+}
+
 impl Parts {
     /// One that has read nothing.
     pub fn new(alloc: Global) -> Result<Parts, AllocError>
@@ -63,12 +76,13 @@ impl Parts {
         ensures cutter { OnOk result (self.new.cutter ≡ self.old.cutter) }
         ensures read { OnOk result (Consumes (S.left source.old) (S.left source.new) (unfed self.new)) }
         ensures counted { OnOk result (self.new.count ≡ self.old.count + length (unfed self.new)) }
+        ensures whole { OnOk result (length (unfed self.new) ≡ self.new.filled) }
         ensures end { OnOk result (unfed self.new ≡ [] → IsAtEnd (S.left source.new) ⊎ (self.new.count ≡ 268435457)) }
         ensures failed { IsErrOf result ReadError.Failed → Rose (S.faults source.old) (S.faults source.new) }
         ensures faults { S.faults source.old ≤ S.faults source.new }
     {
         let want = PIECE.min(TOO_MANY - self.count);
-        let read = source.read(&mut self.piece[..want])?;
+        let read = read_front(source, self.piece.as_mut_slice(), want)?;
         self.fed = 0;
         self.filled = read;
         self.count += read;
