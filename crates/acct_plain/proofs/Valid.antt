@@ -1,9 +1,7 @@
 -- Calls and commands in their ranges charge labels that a packet can have.
-use Rattle.std.proofs.Common.{◌≡◌, ℕ, suc, ◌-◌, ◌^◌, ◌≤◌, ◌<◌, List, [], ◌∷◌, ◌++◌, length, map, refl, sym, ap, subst, arith, Option, Some, None, Bool, true, false, append_assoc, length-append}
-use Rattle.std.specs.Prelude.{IfSome, ◌==◌, if◌then◌else◌, option_map, option_and_then, unwrap_or}
+use Rattle.std.proofs.Common.{ℕ, ◌-◌, ◌^◌, ◌≤◌, ◌<◌, List, [], ◌∷◌, map, sym, subst, arith, Option, Some, None, Bool, true, false}
+use Rattle.std.specs.Prelude.{IfSome, ◌==◌, if◌then◌else◌, option_map, unwrap_or}
 use Rattle.std.specs.List.{AllByRecursion}
-use Rattle.std.proofs.Math.Seq.{take-length}
-use Rattle.std.proofs.lemmas.Bool.{eqb-true}
 use Rattle.std.proofs.lemmas.Nat.{or_lt, and_le_l}
 use Rattle.acct_base.specs.declared.register.Key.{Key}
 use Rattle.acct_base.specs.declared.register.Key.TheVariants.{Cookie, Set, Owner, Enabled}
@@ -19,14 +17,12 @@ use Rattle.acct_base.specs.declared.verdict.Settled.{Settled}
 use Rattle.acct_base.specs.declared.verdict.Match.TheVariants as matched
 use Rattle.acct_base.specs.declared.verdict.Verdict.TheVariants as verdict
 use Rattle.acct_base.specs.Amounts.{IsValidLabel}
-use Rattle.acct_base.specs.Entries.{word_uid, word_tag, tag_word}
+use Rattle.acct_base.specs.Entries.{word_uid, word_tag}
 use Rattle.acct_base.specs.Rules.{settle, is_dns}
-use Rattle.acct_base.specs.Journal.{same_key, last_from, value_of_write, current}
+use Rattle.acct_base.specs.Journal.{current}
 use Rattle.acct_base.proofs.JournalLemmas.{current_all}
 use Rattle.acct_base.specs.Receipts.{HookCall, Call, settled_of, settled, counted, is_clat, tagged_uid, match_read, tag_of, label, charge_to, untagged, charges, number_read}
 use Rattle.acct_base.specs.Receipts.Call.{Hook, Iface, Allow, Deny}
-use Rattle.desk_core.specs.declared.command.Chain.{Chain}
-use Rattle.desk_core.specs.declared.command.Chain.TheVariants as chain
 use Rattle.desk_core.specs.declared.command.Command.{Command}
 use Rattle.desk_core.specs.declared.command.Command.TheVariants as command
 use Rattle.desk_core.specs.Commands.{clear, clear_set, effect, writes, reply, is_done, has_entry, take_bit, put_bit, entry_with, entry_without, puts_bit, cookies_tagged, unlisted, bit_value, chain_bit, old_enabled, with_bit, without_bit}
