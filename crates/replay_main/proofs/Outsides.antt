@@ -1,5 +1,5 @@
 -- What was read of a source, and what is true of it.
-use Rattle.std.proofs.Common.{◌≡◌, ◌⊎◌, ℕ, ◌≤◌, List, [], ◌∷◌, ◌++◌, length, take, refl, sym, ap, subst, ◌∙◌, arith, inl, inr, Option, Some, None, append-nil, Bool, ◌≢◌}
+use Rattle.std.proofs.Common.{◌≡◌, ◌⊎◌, ℕ, ◌≤◌, List, [], ◌∷◌, ◌++◌, length, take, refl, sym, ap, subst, ◌∙◌, arith, inl, inr, Option, Some, None, append-nil, Bool, ◌≢◌, Result, Err, IsErrOf}
 use Rattle.std.proofs.lemmas.List.{take_all}
 use Rattle.std.specs.Io.KnownBytes.{Consumes, IsAtEnd}
 use Rattle.script_text.specs.declared.limits.Counts.{Counts}
@@ -83,3 +83,8 @@ module _ (Read Write : Type 0) (left : Option (List ℕ)) (whole : Option Fault)
 
   pub exact_run : ScriptHasNoFault → OneFault → (g : Fault) → TellsSo (DecidesOn g) left → (whole ≡ None → WasSo LooksLikeScript left) → (whole ≡ Some g) ⊎ (whole ≡ Some fault.Memory)
   exact_run law one g tells script = exact_by law one g tells script whole refl
+
+-- ---- the fault of an answer
+
+pub err_is : {T : Type 0} (r : Result T Fault) (f e : Fault) → IsErrOf r f → r ≡ Err e → f ≡ e
+err_is r f e is at = cc
