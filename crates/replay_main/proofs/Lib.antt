@@ -4,6 +4,7 @@ pub mod Counting
 pub mod Judging
 pub mod Arriving
 pub mod Feeding
+pub mod Coming
 pub mod Telling
 pub mod LineFaults
 pub mod OneScript

@@ -1,5 +1,5 @@
 -- What was read of a source, and what is true of it.
-use Rattle.std.proofs.Common.{◌≡◌, ◌⊎◌, ℕ, ◌≤◌, List, [], ◌∷◌, ◌++◌, length, take, refl, sym, ap, subst, ◌∙◌, arith, inl, inr, Option, Some, None, append-nil, Bool, ◌≢◌, Result, Err, IsErrOf}
+use Rattle.std.proofs.Common.{◌≡◌, ◌⊎◌, ℕ, ◌≤◌, List, [], ◌∷◌, ◌++◌, length, take, refl, sym, ap, subst, ◌∙◌, arith, inl, inr, Option, Some, None, append-nil, Bool, ◌≢◌, Result, Err, IsErrOf, IfSome}
 use Rattle.std.proofs.lemmas.List.{take_all}
 use Rattle.std.specs.Io.KnownBytes.{Consumes, IsAtEnd}
 use Rattle.script_text.specs.declared.limits.Counts.{Counts}
@@ -88,3 +88,6 @@ module _ (Read Write : Type 0) (left : Option (List ℕ)) (whole : Option Fault)
 
 pub err_is : {T : Type 0} (r : Result T Fault) (f e : Fault) → IsErrOf r f → r ≡ Err e → f ≡ e
 err_is r f e is at = cc
+
+pub some_is : {T : Type 0} {o : Option T} {x : T} (P : T → Type 0) → IfSome o P → o ≡ Some x → P x
+some_is {T} {o} {x} P h is = subst (λ (o : Option T). IfSome o P) is h

@@ -1,15 +1,19 @@
 -- How a script comes in from a source, part by part.
 use Rattle.std.specs.Prelude.{◌≡◌, ◌⊎◌, ℕ, ◌+◌, ◌-◌, ◌≤◌, Bool, true, false, List, [], ◌++◌, length, take, drop, Option}
 use Rattle.std.specs.Io.KnownBytes.{Consumes, IsAtEnd}
+use Rattle.script_text.specs.declared.header.Header.{Header}
 use Rattle.script_text.specs.declared.limits.Tally.{Tally}
 use Rattle.script_text.specs.declared.place.Place.TheVariants.{Next}
 use Rattle.script_text.specs.Limits.{tally_before}
 use Rattle.script_text.specs.Faults.{BeginsSection, FailsAt, SyntaxAt, LimitAt}
 use Rattle.script_text.specs.Cuts.{EndsLine, IsUncut}
+use Rattle.shelf.specs.declared.report.SectionOut.{SectionOut}
+use Rattle.acct_plain.specs.Kept.{Tables}
 use Rattle.replay_main.specs.declared.parts.Parts.{Parts}
 use Rattle.replay_main.specs.declared.incoming.Incoming.{Incoming}
 use Rattle.replay_main.specs.declared.fault.Fault.{Fault}
 use Rattle.replay_main.specs.declared.fault.Fault.TheVariants as fault
+use Rattle.replay_main.specs.Reached.{IsReplayedTo}
 
 -- The bytes of the piece that was read last which the cutter was not fed.
 abbrev pub unfed : Parts → List ℕ
@@ -80,3 +84,7 @@ pub record SectionFails (was now : Option (List ℕ)) (old : Incoming) (new : Pa
   pub takes : TakesPart was now old.parts new part is_last
   pub open_before : old.is_over ≡ false
   pub fails : FailsIn (tally_before old.counts) (old.counts.lines + 1) part f
+
+-- What has come in was judged and replayed.
+abbrev pub ReplayedSoFar : Option (List ℕ) → Option (List ℕ) → Incoming → Header → Tables → Tables → List SectionOut → Type 0
+ReplayedSoFar was now i header first then outs = (front : List ℕ) × HasCome was now i front × IsReplayedTo front header i.counts first then outs

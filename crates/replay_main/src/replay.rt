@@ -1,12 +1,16 @@
 //! A script's replay on one thread.
 
-ghost use Rattle.std.specs.Prelude.{◌≡◌, ℕ, List, IfOk, IfErr, IsErrOf};
+ghost use Rattle.std.specs.Prelude.{◌≡◌, ◌-◌, ◌<◌, ◌≤◌, ℕ, true, List, Option, IfOk, IfErr, OnOk, IsErrOf, IsTrue, IsFalse};
 ghost use Rattle.outside.specs.Outside.{Rose};
+ghost use Rattle.script_text.specs.declared.header.Header.{Header as Headed};
+ghost use Rattle.captures.specs.Runs.{nothing_yet};
+ghost use Rattle.acct_plain.specs.Kept.{Tables, Keeps};
 ghost use Rattle.shelf.specs.Shown.{shown};
 ghost use Rattle.dump_text.specs.Room.{SumsFit, AppsCoverDeletions};
 ghost use Rattle.replay_main.specs.declared.fault.Fault.{Fault as Faulty};
 ghost use Rattle.replay_main.specs.Faults.{IsJudgingFault};
 ghost use Rattle.replay_main.specs.Reached.{IsRead, IsPlain};
+ghost use Rattle.replay_main.specs.Incoming.{ReplayedSoFar};
 ghost use Rattle.replay_main.specs.Run.{WasSo, DecidesOn, IsOfText};
 
 use crate::fault::Fault;
@@ -30,16 +34,43 @@ pub fn replayed<S: Source>(alloc: Global, source: &mut S) -> Result<Report, Faul
 {
     serial_is_honest();
     serial_can_be_told();
-    script_by_parts();
     let (header, mut script) = Incoming::begin(alloc, source)?;
     let mut plain = Plain::new(alloc, header.privileged.as_slice(), &header.sizes)?;
     let mut sections = SectionList::new(alloc);
-    while let Some(section) = script.section(alloc, source)? {
-        let calls = resolve(alloc, &section)?;
-        let out = plain.section(alloc, &calls)?;
-        sections.push(out)?;
-    }
+    while run_next(alloc, &mut script, source, &mut plain, &mut sections)? {}
     let Header { names, .. } = header;
     let report = plain.finish(alloc, names, sections)?;
     Ok(report)
+}
+
+// Reads the next section, runs it, and says whether there was one.
+fn run_next<S: Source>(
+    alloc: Global,
+    script: &mut Incoming,
+    source: &mut S,
+    plain: &mut Plain,
+    sections: &mut SectionList,
+) -> Result<bool, Fault>
+    requires so_far { (was : Option (List ℕ)) × ((header : Headed) × ((first : Tables) ×
+        (Keeps first nothing_yet 0 × ReplayedSoFar was (S.left source.old) script.old header first plain.old sections.old))) }
+    ensures goes_on { (was : Option (List ℕ)) (header : Headed) (first : Tables) → ReplayedSoFar was (S.left source.old) script.old header first plain.old sections.old →
+        OnOk result (ReplayedSoFar was (S.left source.new) script.new header first plain.new sections.new) }
+    ensures longer { IfOk result (λ ran. IsTrue ran → 268435456 - script.new.counts.bytes < 268435456 - script.old.counts.bytes) }
+    ensures over { IfOk result (λ ran. IsFalse ran → script.new.is_over ≡ true) }
+    ensures read_fault { IsErrOf result Fault.ReadFault → Rose (S.faults source.old) (S.faults source.new) }
+    ensures decides { (was : Option (List ℕ)) (header : Headed) (first : Tables) → ReplayedSoFar was (S.left source.old) script.old header first plain.old sections.old →
+        (f : Faulty) → IsErrOf result f → IsOfText f → WasSo (DecidesOn f) was }
+    ensures faults { IfErr result IsJudgingFault }
+    ensures count { S.faults source.old ≤ S.faults source.new }
+{
+    script_by_parts();
+    match script.section(alloc, source)? {
+        None => Ok(false),
+        Some(section) => {
+            let calls = resolve(alloc, &section)?;
+            let out = plain.section(alloc, &calls)?;
+            sections.push(out)?;
+            Ok(true)
+        }
+    }
 }
