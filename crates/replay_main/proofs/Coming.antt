@@ -1,12 +1,10 @@
 -- What is known of a script while it comes in.
-use Rattle.std.proofs.Common.{◌≡◌, ℕ, ◌+◌, ◌-◌, ◌<◌, ◌≤◌, Bool, true, false, List, [], ◌∷◌, ◌++◌, length, refl, sym, ap, subst, ◌∙◌, arith, length-append, Option}
-use Rattle.std.specs.Prelude.{codes}
+use Rattle.std.proofs.Common.{◌≡◌, ℕ, ◌+◌, ◌-◌, ◌<◌, ◌≤◌, Bool, true, false, List, [], ◌∷◌, ◌++◌, length, subst, arith, Option}
 use Rattle.script_text.specs.declared.header.Header.{Header}
 use Rattle.script_text.specs.declared.section.Section.{Section}
 use Rattle.script_text.specs.declared.limits.Counts.{Counts}
-use Rattle.script_text.specs.Parts.{header_text, section_lines, section_text, lines_text}
+use Rattle.script_text.specs.Parts.{header_text, section_text}
 use Rattle.script_text.specs.Limits.{header_counts, counts_after}
-use Rattle.script_text.specs.Faults.{BeginsSection}
 use Rattle.script_text.specs.Script.{IsFirstHeader, IsNextSection}
 use Rattle.script_text.specs.Laws.{ScriptGrows, SyntaxGoesOn, LimitGoesOn}
 use Rattle.captures.specs.declared.section.ResolveFault.{ResolveFault}
@@ -21,7 +19,7 @@ use Rattle.replay_main.specs.declared.fault.Fault.{Fault}
 use Rattle.replay_main.specs.declared.parts.Parts.{Parts}
 use Rattle.replay_main.specs.declared.incoming.Incoming.{Incoming}
 use Rattle.replay_main.specs.Faults.{resolve_fault}
-use Rattle.replay_main.specs.Incoming.{ahead, ComesNext, TakesPart, HasCome, IsComing, SectionFails, ReplayedSoFar}
+use Rattle.replay_main.specs.Incoming.{ComesNext, TakesPart, HasCome, IsComing, SectionFails, ReplayedSoFar}
 use Rattle.replay_main.specs.Reached.{IsWithin, IsRead, IsCounted, IsCheckedAs, IsReplayedTo}
 use Rattle.replay_main.specs.Run.{WasSo, DecidesOn, IsOfText}
 use Rattle.replay_main.proofs.Cutting.{section_bytes}

@@ -1,7 +1,7 @@
 -- What feeding a cutter leaves of a piece.
 use Rattle.std.proofs.Common.{◌≡◌, ℕ, zero, suc, ◌+◌, ◌-◌, ◌≤◌, List, [], ◌∷◌, ◌++◌, length, take, drop, refl, sym, ap, subst, ◌∙◌, arith, append_assoc, append-nil, length-append, Option}
 use Rattle.std.specs.Prelude.{codes}
-use Rattle.std.proofs.lemmas.List.{drop-take, take-append-drop, length-take-le, length-take, length-drop}
+use Rattle.std.proofs.lemmas.List.{drop-take, take-append-drop, length-take}
 use Rattle.std.specs.Io.KnownBytes.{Consumes}
 use Rattle.std.proofs.KnownBytes.{Consumes-trans}
 use Rattle.script_text.specs.declared.cutter.Fed.{Fed}

@@ -1,24 +1,23 @@
 -- What was read of a source, and what is true of it.
-use Rattle.std.proofs.Common.{◌≡◌, ◌⊎◌, ℕ, ◌≤◌, List, [], ◌∷◌, ◌++◌, length, take, refl, sym, ap, subst, ◌∙◌, arith, inl, inr, Option, Some, None, append-nil, Bool, ◌≢◌, Result, Err, IsErrOf, IfSome}
+use Rattle.std.proofs.Common.{◌≡◌, ◌⊎◌, ℕ, List, ◌++◌, take, refl, sym, ap, subst, ◌∙◌, arith, inl, inr, Option, Some, None, append-nil, Bool, ◌≢◌, Result, Err, IsErrOf, IfSome}
 use Rattle.std.proofs.lemmas.List.{take_all}
-use Rattle.std.specs.Io.KnownBytes.{Consumes, IsAtEnd}
 use Rattle.script_text.specs.declared.limits.Counts.{Counts}
 use Rattle.shelf.specs.declared.report.Report.{Report}
 use Rattle.replay_main.specs.declared.fault.Fault.{Fault}
 use Rattle.replay_main.specs.declared.fault.Fault.TheVariants as fault
 use Rattle.replay_main.specs.declared.words.Form.TheVariants.{Replay, Plain}
-use Rattle.replay_main.specs.Judged.{IsScriptText, Decides}
+use Rattle.replay_main.specs.Judged.{IsScriptText}
 use Rattle.replay_main.specs.Judgements.{ScriptHasNoFault, OneFault}
 use Rattle.replay_main.specs.Reached.{IsRead, IsPlain, IsCheckedAs}
-use Rattle.replay_main.specs.Run.{WasSo, TellsSo, LooksLikeScript, DecidesOn, IsOfText, IsReplayed, Gives, HasRun}
+use Rattle.replay_main.specs.Run.{WasSo, TellsSo, LooksLikeScript, DecidesOn, IsOfText, Gives, HasRun}
 
 -- what was read is a script
-pub read_script : (was now : Option (List ℕ)) (text : List ℕ) → IsRead was now text → length text ≤ 268435456 → IsScriptText text → WasSo LooksLikeScript was
-read_script None now text read few is = tt
-read_script (Some whole) None text read few is = absurd read.read
-read_script (Some whole) (Some rest) text read few is =
+pub read_script : (was now : Option (List ℕ)) (text : List ℕ) → IsRead was now text → IsScriptText text → WasSo LooksLikeScript was
+read_script None now text read is = tt
+read_script (Some whole) None text read is = absurd read.read
+read_script (Some whole) (Some rest) text read is =
     let same : whole ≡ text = read.read ∙ ap (λ (r : List ℕ). text ++ r) read.end ∙ append-nil text in
-    subst IsScriptText (sym (ap (take 268435457) same ∙ take_all 268435457 text (omega (arith, few)))) is
+    subst IsScriptText (sym (ap (take 268435457) same ∙ take_all 268435457 text (omega (arith, read.within)))) is
 
 pub plain_script : (text : List ℕ) (report : Report) → IsPlain text report → IsScriptText text
 plain_script text report is = (is.header, is.sections, is.calls, is.judged)

@@ -1,16 +1,13 @@
 -- A text that is judged and replayed section by section.
-use Rattle.std.proofs.Common.{◌≡◌, ℕ, zero, suc, ◌+◌, ◌*◌, ◌≤◌, ◌<◌, List, [], ◌∷◌, ◌++◌, length, map, refl, sym, ap, subst, ◌∙◌, arith, Option, Some, None, true, slice_index_or, All}
-use Rattle.std.specs.Prelude.{nat_lt}
+use Rattle.std.proofs.Common.{◌≡◌, ℕ, ◌+◌, ◌*◌, ◌≤◌, List, [], ◌∷◌, ◌++◌, length, refl, sym, ap, subst, ◌∙◌, arith}
 use Rattle.std.specs.List.{AllByRecursion}
-use Rattle.std.specs.List.Sorted.{IsStrictlyIncreasing}
-use Rattle.desk_core.specs.Ranges.{AreApps}
 use Rattle.script_text.specs.declared.header.Header.{Header}
 use Rattle.script_text.specs.declared.section.Section.{Section}
 use Rattle.script_text.specs.declared.limits.Counts.{Counts}
 use Rattle.script_text.specs.Parts.{section_text}
 use Rattle.script_text.specs.Limits.{counts_after, header_counts}
 use Rattle.script_text.specs.Parts.{header_text}
-use Rattle.script_text.specs.Script.{IsFirstHeader, IsNextSection, script_counts}
+use Rattle.script_text.specs.Script.{IsFirstHeader, IsNextSection}
 use Rattle.script_text.specs.Laws.{ScriptGrows}
 use Rattle.captures.specs.Calls.{SectionCalls, IsSectionInRange}
 use Rattle.captures.specs.Sections.{AreCalls}
@@ -21,7 +18,7 @@ use Rattle.acct_plain.specs.Serial.{walk_sections}
 use Rattle.acct_plain.specs.Walks.{AreSectionsWalked, IsSectionWalked, calls_of_sections, calls_made, collecting}
 use Rattle.acct_plain.proofs.Walking.{section_more_of}
 use Rattle.shelf.specs.declared.report.Report.{Report}
-use Rattle.shelf.specs.Shown.{Shown, shown}
+use Rattle.shelf.specs.Shown.{shown}
 use Rattle.captures.specs.Honest.{IsHonest}
 use Rattle.acct_plain.specs.Laws.{SerialIsHonest}
 use Rattle.acct_plain.specs.Serial.{serial, told}

@@ -1,5 +1,5 @@
 -- The faults of a run.
-use Rattle.std.specs.Prelude.{◌≡◌, ℕ, Option, Some, None}
+use Rattle.std.specs.Prelude.{ℕ, Option, Some, None}
 use Rattle.outside.specs.declared.whole.ReadError.{ReadError}
 use Rattle.outside.specs.declared.whole.ReadError.TheVariants as reading
 use Rattle.captures.specs.declared.section.ResolveFault.{ResolveFault}

@@ -2,7 +2,6 @@
 use Rattle.std.specs.Prelude.{◌≡◌, ℕ, ◌≤◌, List, length, Option}
 use Rattle.std.specs.Io.KnownBytes.{Consumes, IsAtEnd}
 use Rattle.std.specs.List.{AllByRecursion}
-use Rattle.desk_core.specs.Ranges.{IsInRange}
 use Rattle.script_text.specs.declared.header.Header.{Header}
 use Rattle.script_text.specs.declared.section.Section.{Section}
 use Rattle.script_text.specs.declared.limits.Counts.{Counts}
@@ -46,10 +45,11 @@ pub record IsReplayedTo (text : List ℕ) (header : Header) (counts : Counts) (f
   pub few_calls : calls_of_sections calls ≤ counts.hooks
   pub few_phases : length now.phases ≤ counts.collections
 
--- All that a source had was read, and it was this text.
+-- All that a source had was read, and it was this text, which is no longer than a script may be.
 pub record IsRead (was now : Option (List ℕ)) (text : List ℕ) : Type 0 where
   pub read : Consumes was now text
   pub end : IsAtEnd now
+  pub within : length text ≤ 268435456
 
 -- The text is a script, and the report is that of its replay on one thread, which is honest to what the script asks for.
 pub record IsPlain (text : List ℕ) (report : Report) : Type 0 where

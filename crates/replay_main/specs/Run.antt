@@ -1,8 +1,6 @@
 -- What a run reads, gives and writes.
-use Rattle.std.specs.Prelude.{◌≡◌, ◌≢◌, ℕ, ◌≤◌, Bool, List, [], ◌∷◌, ◌++◌, length, codes, decimal, Option, None, Some}
+use Rattle.std.specs.Prelude.{◌≡◌, ℕ, List, [], ◌∷◌, codes, decimal, Option, None, Some}
 use Rattle.acct_base.specs.Text.{line_text}
-use Rattle.std.specs.Io.KnownBytes.{Appends, IsAtEnd}
-use Rattle.outside.specs.Outside.{AppendsPrefix}
 use Rattle.script_text.specs.declared.header.Header.{Header}
 use Rattle.script_text.specs.declared.section.Section.{Section}
 use Rattle.script_text.specs.declared.limits.Counts.{Counts}
@@ -11,7 +9,6 @@ use Rattle.captures.specs.Calls.{SectionCalls}
 use Rattle.captures.specs.Honest.{IsHonest}
 use Rattle.shelf.specs.declared.report.Report.{Report}
 use Rattle.shelf.specs.Shown.{shown}
-use Rattle.acct_plain.specs.Serial.{serial}
 use Rattle.dump_text.specs.Dump.{dump}
 use Rattle.replay_main.specs.declared.fault.Fault.{Fault}
 use Rattle.replay_main.specs.declared.fault.Fault.TheVariants as fault

@@ -1,5 +1,5 @@
 -- The words that a run takes.
-use Rattle.std.specs.Prelude.{◌≡◌, ◌≢◌, ℕ, Bool, true, false, List, [], ◌∷◌, codes}
+use Rattle.std.specs.Prelude.{◌≢◌, ℕ, Bool, true, false, List, [], ◌∷◌, codes}
 use Rattle.replay_main.specs.declared.words.Form.{Form}
 use Rattle.replay_main.specs.declared.words.Form.TheVariants.{Replay, Plain, Check}
 

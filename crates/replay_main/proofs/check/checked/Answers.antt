@@ -1,6 +1,5 @@
 use Rattle.std.proofs.Common.{◌≡◌, ◌∙◌, ℕ, List, Option, true, ap, sym, subst, Err, arith, rules}
 use Rattle.std.proofs.lemmas.Result.{err_from_is_err_and}
-use Rattle.script_text.specs.Parts.{header_text}
 use Rattle.replay_main.specs.declared.incoming.Incoming.{Incoming}
 use Rattle.replay_main.specs.Reached.{IsRead, IsCheckedAs}
 use Rattle.replay_main.proofs.Counting.{capture_small}

@@ -1,7 +1,6 @@
-use Rattle.std.proofs.Common.{◌≡◌, ◌∙◌, ap, sym, subst, Err, List, ℕ, rules}
+use Rattle.std.proofs.Common.{◌≡◌, ◌∙◌, ap, subst, Err, List, ℕ, rules}
 use Rattle.std.proofs.lemmas.Result.{err_from_is_err_and}
 use Rattle.script_text.specs.declared.place.Place.TheVariants.{Start}
-use Rattle.script_text.specs.declared.fault.Which.{Which}
 use Rattle.script_text.specs.Faults.{IsPart, FailsAt, SyntaxAt, LimitAt}
 use Rattle.script_text.specs.Limits.{no_tally}
 use Rattle.script_text.specs.Parts.{header_text}

@@ -1,5 +1,4 @@
-use Rattle.std.proofs.Common.{◌≡◌, ℕ, List, [], arith, rules}
-use Rattle.replay_main.specs.Incoming.{unfed, ahead}
+use Rattle.std.proofs.Common.{arith, rules}
 use Rattle.replay_main.proofs.Feeding.{read_on}
 use Rattle.replay_main.proofs.parts.Parts.next.Goals as goal
 
