@@ -1,9 +1,8 @@
 -- The privileged apps of a header ascend, and are app ids.
-use Rattle.std.proofs.Common.{◌≡◌, ℕ, zero, suc, ◌+◌, ◌<◌, ◌≤◌, List, [], ◌∷◌, ◌++◌, length, map, refl, sym, ap, subst, ◌∙◌, arith, true, All, append_assoc}
+use Rattle.std.proofs.Common.{◌≡◌, ℕ, zero, suc, ◌+◌, ◌<◌, List, [], ◌∷◌, ◌++◌, length, map, refl, sym, ap, subst, ◌∙◌, arith, true, append_assoc}
 use Rattle.std.proofs.lemmas.List.{append-nil}
 use Rattle.std.specs.Prelude.{nat_lt}
 use Rattle.std.specs.List.{AllByRecursion, slice_index}
-use Rattle.std.specs.List.Sorted.{IsStrictlyIncreasing}
 use Rattle.std.proofs.lemmas.List.Elements.{All-from_recursion}
 use Rattle.desk_core.specs.Ranges.{AreApps}
 use Rattle.script_text.specs.declared.header.Header.{Header}
@@ -13,8 +12,7 @@ use Rattle.script_text.specs.declared.map_name.MapName.{MapName}
 use Rattle.script_text.specs.declared.place.Place.{Place}
 use Rattle.script_text.specs.declared.place.Place.TheVariants as places
 use Rattle.script_text.specs.Lines.{IsLine}
-use Rattle.script_text.specs.Order.{place_of, place_behind, names_in, MayStand, InOrder, takes_priv}
-use Rattle.script_text.specs.Parts.{header_lines, IsHeader}
+use Rattle.script_text.specs.Order.{place_of, place_behind, InOrder, takes_priv}
 use Rattle.script_text.specs.Script.{IsFirstHeader}
 
 front_fits : (xs ys : List Line) → AllByRecursion IsLine (xs ++ ys) → AllByRecursion IsLine xs × AllByRecursion IsLine ys

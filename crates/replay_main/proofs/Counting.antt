@@ -1,6 +1,6 @@
 -- What the lines of a section count for, and what its calls are in number.
-use Rattle.std.proofs.Common.{◌≡◌, ℕ, zero, suc, ◌+◌, ◌-◌, ◌≤◌, ◌<◌, List, [], ◌∷◌, ◌++◌, length, map, take, drop, refl, sym, ap, ◌∙◌, arith, Option, Some, None, Bool, true, false}
-use Rattle.std.specs.Prelude.{nat_lt, if◌then◌else◌, filter, cond, sum_by, unwrap_or}
+use Rattle.std.proofs.Common.{◌≡◌, ℕ, suc, ◌+◌, ◌-◌, ◌≤◌, List, [], ◌∷◌, ◌++◌, length, map, take, drop, refl, ap, arith, Option, Some, None, Bool, true, false}
+use Rattle.std.specs.Prelude.{nat_lt, if◌then◌else◌, cond, unwrap_or}
 use Rattle.std.specs.List.{flat_map, AllZip}
 use Rattle.std.proofs.lemmas.List.{length-take-le, length-drop}
 use Rattle.acct_base.specs.Receipts.{Call}
@@ -15,7 +15,7 @@ use Rattle.script_text.specs.declared.fault.Which.TheVariants as which
 use Rattle.script_text.specs.declared.section.Section.{Section}
 use Rattle.script_text.specs.Lines.{LaneLine}
 use Rattle.script_text.specs.Parts.{cap_lines, lane_lines, desk_lines, section_lines, sum_of}
-use Rattle.script_text.specs.Limits.{added, tallied, passed, uids_in, KeepLimits, tally_before, counts_after}
+use Rattle.script_text.specs.Limits.{added, tallied, passed, KeepLimits, tally_before, counts_after}
 use Rattle.script_text.specs.Script.{IsNextSection}
 use Rattle.captures.specs.Calls.{SectionCalls}
 use Rattle.captures.specs.Pcap.{Held}

@@ -2,6 +2,9 @@ pub mod WordLists
 pub mod Cutting
 pub mod Counting
 pub mod Judging
+pub mod Arriving
+pub mod Feeding
+pub mod Coming
 pub mod Telling
 pub mod LineFaults
 pub mod OneScript

@@ -1,41 +1,23 @@
 -- What was read of a source, and what is true of it.
-use Rattle.std.proofs.Common.{◌≡◌, ◌⊎◌, ℕ, ◌≤◌, List, [], ◌∷◌, ◌++◌, length, take, refl, sym, ap, subst, ◌∙◌, arith, inl, inr, Option, Some, None, append-nil, Bool, ◌≢◌}
+use Rattle.std.proofs.Common.{◌≡◌, ◌⊎◌, ℕ, List, ◌++◌, take, refl, sym, ap, subst, ◌∙◌, arith, inl, inr, Option, Some, None, append-nil, Bool, ◌≢◌, Result, Err, IsErrOf, IfSome}
 use Rattle.std.proofs.lemmas.List.{take_all}
-use Rattle.std.specs.Io.KnownBytes.{Consumes, IsAtEnd}
 use Rattle.script_text.specs.declared.limits.Counts.{Counts}
 use Rattle.shelf.specs.declared.report.Report.{Report}
 use Rattle.replay_main.specs.declared.fault.Fault.{Fault}
 use Rattle.replay_main.specs.declared.fault.Fault.TheVariants as fault
 use Rattle.replay_main.specs.declared.words.Form.TheVariants.{Replay, Plain}
-use Rattle.replay_main.specs.Judged.{IsScriptText, Decides}
+use Rattle.replay_main.specs.Judged.{IsScriptText}
 use Rattle.replay_main.specs.Judgements.{ScriptHasNoFault, OneFault}
-use Rattle.replay_main.specs.Reached.{IsPlain, IsCheckedAs}
-use Rattle.replay_main.specs.Run.{WasSo, TellsSo, AreLookedAt, AreWhole, LooksLikeScript, DecidesOn, IsOfText, IsReplayed, Gives, HasRun}
+use Rattle.replay_main.specs.Reached.{IsRead, IsPlain, IsCheckedAs}
+use Rattle.replay_main.specs.Run.{WasSo, TellsSo, LooksLikeScript, DecidesOn, IsOfText, Gives, HasRun}
 
-take_front : (front rest : List ℕ) → take (length front) (front ++ rest) ≡ front
-take_front [] rest = refl
-take_front (x ∷ xs) rest = ap (λ (l : List ℕ). x ∷ l) (take_front xs rest)
-
-pub are_looked_at : (left now : Option (List ℕ)) (bytes : List ℕ) (n : ℕ) → length bytes ≡ n → Consumes left now bytes → n ≤ 268435457 → (n ≡ 268435457) ⊎ IsAtEnd now → AreLookedAt bytes left
-are_looked_at None now bytes n long read few whole = tt
-are_looked_at (Some text) None bytes n long read few whole = absurd read
-are_looked_at (Some text) (Some rest) bytes n long read few (inl full) = sym (take_front bytes rest) ∙ ap (λ (n : ℕ). take n (bytes ++ rest)) (long ∙ full) ∙ ap (take 268435457) (sym read)
-are_looked_at (Some text) (Some rest) bytes n long read few (inr end) =
-    sym (take_all 268435457 bytes (omega (arith, long, few))) ∙ ap (take 268435457) (sym (read ∙ ap (λ (r : List ℕ). bytes ++ r) end ∙ append-nil bytes))
-
--- what is true of the whole that was read
-pub carried : (So : List ℕ → Type 0) (left : Option (List ℕ)) (bytes : List ℕ) → AreWhole bytes left → So bytes → WasSo So left
-carried So None bytes whole so = tt
-carried So (Some text) bytes whole so = subst So (sym whole) so
-
-was_map : (P Q : List ℕ → Type 0) (left : Option (List ℕ)) → ((text : List ℕ) → P text → Q text) → WasSo P left → WasSo Q left
-was_map P Q None f so = tt
-was_map P Q (Some text) f so = f text so
-
--- what was looked at is a script
-pub looked_script : (left : Option (List ℕ)) (bytes : List ℕ) → AreLookedAt bytes left → IsScriptText bytes → WasSo LooksLikeScript left
-looked_script None bytes looked is = tt
-looked_script (Some text) bytes looked is = subst IsScriptText looked is
+-- what was read is a script
+pub read_script : (was now : Option (List ℕ)) (text : List ℕ) → IsRead was now text → IsScriptText text → WasSo LooksLikeScript was
+read_script None now text read is = tt
+read_script (Some whole) None text read is = absurd read.read
+read_script (Some whole) (Some rest) text read is =
+    let same : whole ≡ text = read.read ∙ ap (λ (r : List ℕ). text ++ r) read.end ∙ append-nil text in
+    subst IsScriptText (sym (ap (take 268435457) same ∙ take_all 268435457 text (omega (arith, read.within)))) is
 
 pub plain_script : (text : List ℕ) (report : Report) → IsPlain text report → IsScriptText text
 plain_script text report is = (is.header, is.sections, is.calls, is.judged)
@@ -44,15 +26,12 @@ pub checked_script : (text : List ℕ) (counts : Counts) → IsCheckedAs text co
 checked_script text counts is = (is.header, is.sections, is.calls, is.judged)
 
 -- a replay on one thread is a replay
-gives_replayed : (receipts : Bool) (left : Option (List ℕ)) (report : Option Report) (text : List ℕ) → Gives (Plain receipts) left report text → Gives (Replay receipts) left report text
-gives_replayed receipts left None text h = absurd h
-gives_replayed receipts left (Some report) text h = (
-  was_map (λ script. IsPlain script report) (λ script. IsReplayed script report) left (λ script is. record { header = is.header; sections = is.sections; calls = is.calls; judged = is.judged; honest = is.honest }) h.0,
-  h.1,
-)
+gives_replayed : (receipts : Bool) (script : List ℕ) (report : Option Report) (text : List ℕ) → Gives (Plain receipts) script report text → Gives (Replay receipts) script report text
+gives_replayed receipts script None text h = absurd h
+gives_replayed receipts script (Some report) text (is, written) = (record { header = is.header; sections = is.sections; calls = is.calls; judged = is.judged; honest = is.honest }, written)
 
-pub replay_run : (receipts : Bool) (left now : Option (List ℕ)) (report : Option Report) (Writes : List ℕ → Type 0) → HasRun (Plain receipts) left now report Writes → HasRun (Replay receipts) left now report Writes
-replay_run receipts left now report Writes h = record { text = h.text; end = h.end; gives = gives_replayed receipts left report h.text h.gives; writes = h.writes }
+pub replay_run : (receipts : Bool) (was now : Option (List ℕ)) (report : Option Report) (Writes : List ℕ → Type 0) → HasRun (Plain receipts) was now report Writes → HasRun (Replay receipts) was now report Writes
+replay_run receipts was now report Writes h = record { script = h.script; read = h.read; text = h.text; gives = gives_replayed receipts h.script report h.text h.gives; writes = h.writes }
 
 -- ---- which fault comes
 
@@ -103,3 +82,11 @@ module _ (Read Write : Type 0) (left : Option (List ℕ)) (whole : Option Fault)
 
   pub exact_run : ScriptHasNoFault → OneFault → (g : Fault) → TellsSo (DecidesOn g) left → (whole ≡ None → WasSo LooksLikeScript left) → (whole ≡ Some g) ⊎ (whole ≡ Some fault.Memory)
   exact_run law one g tells script = exact_by law one g tells script whole refl
+
+-- ---- the fault of an answer
+
+pub err_is : {T : Type 0} (r : Result T Fault) (f e : Fault) → IsErrOf r f → r ≡ Err e → f ≡ e
+err_is r f e is at = cc
+
+pub some_is : {T : Type 0} {o : Option T} {x : T} (P : T → Type 0) → IfSome o P → o ≡ Some x → P x
+some_is {T} {o} {x} P h is = subst (λ (o : Option T). IfSome o P) is h

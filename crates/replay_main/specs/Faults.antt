@@ -1,5 +1,7 @@
 -- The faults of a run.
-use Rattle.std.specs.Prelude.{◌≡◌, ℕ, Option, Some, None}
+use Rattle.std.specs.Prelude.{ℕ, Option, Some, None}
+use Rattle.outside.specs.declared.whole.ReadError.{ReadError}
+use Rattle.outside.specs.declared.whole.ReadError.TheVariants as reading
 use Rattle.captures.specs.declared.section.ResolveFault.{ResolveFault}
 use Rattle.captures.specs.declared.section.ResolveFault.TheVariants as resolving
 use Rattle.script_text.specs.declared.fault.ScriptFault.{ScriptFault}
@@ -19,6 +21,11 @@ status_of (Some (fault.CaptureBad line place)) = 7
 status_of (Some (fault.NoPacket line)) = 8
 status_of (Some fault.Memory) = 9
 
+-- The fault of a run whose source could not be read on.
+abbrev pub read_fault : ReadError → Fault
+read_fault reading.Failed = fault.ReadFault
+read_fault reading.Memory = fault.Memory
+
 -- The fault of a run whose script was not read.
 abbrev pub script_fault : ScriptFault → Fault
 script_fault (script.Syntax line) = fault.Syntax line
@@ -30,12 +37,6 @@ abbrev pub resolve_fault : ResolveFault → Fault
 resolve_fault (resolving.CaptureBad line place) = fault.CaptureBad line place
 resolve_fault (resolving.NoPacket line) = fault.NoPacket line
 resolve_fault resolving.Memory = fault.Memory
-
--- A fault that reading a source may have.
-abbrev pub IsReadingFault : Fault → Type 0
-IsReadingFault fault.ReadFault = Unit {0}
-IsReadingFault fault.Memory = Unit {0}
-IsReadingFault _ = ⊥
 
 -- A fault that reading and judging may have.
 abbrev pub IsJudgingFault : Fault → Type 0

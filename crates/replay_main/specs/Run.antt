@@ -1,8 +1,6 @@
 -- What a run reads, gives and writes.
-use Rattle.std.specs.Prelude.{◌≡◌, ◌≢◌, ℕ, ◌≤◌, Bool, List, [], ◌∷◌, ◌++◌, length, codes, decimal, Option, None, Some}
+use Rattle.std.specs.Prelude.{◌≡◌, ℕ, List, [], ◌∷◌, codes, decimal, Option, None, Some}
 use Rattle.acct_base.specs.Text.{line_text}
-use Rattle.std.specs.Io.KnownBytes.{Appends, IsAtEnd}
-use Rattle.outside.specs.Outside.{AppendsPrefix}
 use Rattle.script_text.specs.declared.header.Header.{Header}
 use Rattle.script_text.specs.declared.section.Section.{Section}
 use Rattle.script_text.specs.declared.limits.Counts.{Counts}
@@ -11,14 +9,13 @@ use Rattle.captures.specs.Calls.{SectionCalls}
 use Rattle.captures.specs.Honest.{IsHonest}
 use Rattle.shelf.specs.declared.report.Report.{Report}
 use Rattle.shelf.specs.Shown.{shown}
-use Rattle.acct_plain.specs.Serial.{serial}
 use Rattle.dump_text.specs.Dump.{dump}
 use Rattle.replay_main.specs.declared.fault.Fault.{Fault}
 use Rattle.replay_main.specs.declared.fault.Fault.TheVariants as fault
 use Rattle.replay_main.specs.declared.words.Form.{Form}
 use Rattle.replay_main.specs.declared.words.Form.TheVariants.{Replay, Plain, Check}
 use Rattle.replay_main.specs.Judged.{IsJudged, Decides, IsScriptText, asked_of}
-use Rattle.replay_main.specs.Reached.{IsPlain, IsCheckedAs}
+use Rattle.replay_main.specs.Reached.{IsRead, IsPlain, IsCheckedAs}
 
 -- The text is a script, and the report is honest to what it asks for.
 pub record IsReplayed (text : List ℕ) (report : Report) : Type 0 where
@@ -53,19 +50,20 @@ DecidesOn f text = Decides (looked_at text) f
 abbrev pub LooksLikeScript : List ℕ → Type 0
 LooksLikeScript text = IsScriptText (looked_at text)
 
--- What a run of a form gives and has to write, from what its source had left: for `replay` an honest report and its dump; for `plain` the
--- report of the replay on one thread, which is honest, and its dump; for `check` the counts of the script.
-abbrev pub Gives : Form → Option (List ℕ) → Option Report → List ℕ → Type 0
-Gives (Replay receipts) left (Some report) text = WasSo (λ script. IsReplayed script report) left × (text ≡ dump (shown report) receipts)
-Gives (Plain receipts) left (Some report) text = WasSo (λ script. IsPlain script report) left × (text ≡ dump (shown report) receipts)
-Gives Check left None text = (counts : Counts) × WasSo (λ script. IsCheckedAs script counts) left × (text ≡ check_text counts)
-Gives _ left _ text = ⊥
+-- What a run of a form gives for a script, and has to write: for `replay` an honest report and its dump; for `plain` the report of the
+-- replay on one thread, which is honest, and its dump; for `check` the counts of the script.
+abbrev pub Gives : Form → List ℕ → Option Report → List ℕ → Type 0
+Gives (Replay receipts) script (Some report) text = IsReplayed script report × (text ≡ dump (shown report) receipts)
+Gives (Plain receipts) script (Some report) text = IsPlain script report × (text ≡ dump (shown report) receipts)
+Gives Check script None text = (counts : Counts) × IsCheckedAs script counts × (text ≡ check_text counts)
+Gives _ script _ text = ⊥
 
--- A run did what its words ask for: it read its source to the end, and wrote all of its text, or a front of it.
-pub record HasRun (form : Form) (left now : Option (List ℕ)) (report : Option Report) (Writes : List ℕ → Type 0) : Type 0 where
+-- A run did what its words ask for: it read a script, which was all that its source had, and wrote all of its text, or a front of it.
+pub record HasRun (form : Form) (was now : Option (List ℕ)) (report : Option Report) (Writes : List ℕ → Type 0) : Type 0 where
+  pub script : List ℕ
+  pub read : IsRead was now script
   pub text : List ℕ
-  pub end : IsAtEnd now
-  pub gives : Gives form left report text
+  pub gives : Gives form script report text
   pub writes : Writes text
 
 -- The fault is one of the text's.
@@ -75,11 +73,3 @@ IsOfText (fault.Limit which line) = Unit {0}
 IsOfText (fault.CaptureBad line place) = Unit {0}
 IsOfText (fault.NoPacket line) = Unit {0}
 IsOfText _ = ⊥
-
--- The bytes are what is looked at of what the source had left.
-abbrev pub AreLookedAt : List ℕ → Option (List ℕ) → Type 0
-AreLookedAt bytes left = WasSo (λ text. bytes ≡ looked_at text) left
-
--- The bytes are all that the source had left.
-abbrev pub AreWhole : List ℕ → Option (List ℕ) → Type 0
-AreWhole bytes left = WasSo (λ text. text ≡ bytes) left

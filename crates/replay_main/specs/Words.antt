@@ -1,5 +1,5 @@
 -- The words that a run takes.
-use Rattle.std.specs.Prelude.{◌≡◌, ◌≢◌, ℕ, Bool, true, false, List, [], ◌∷◌, codes}
+use Rattle.std.specs.Prelude.{◌≢◌, ℕ, Bool, true, false, List, [], ◌∷◌, codes}
 use Rattle.replay_main.specs.declared.words.Form.{Form}
 use Rattle.replay_main.specs.declared.words.Form.TheVariants.{Replay, Plain, Check}
 
@@ -17,3 +17,13 @@ words_of Check = codes "check" ∷ []
 -- The words are those of no form.
 abbrev pub AreNoForm : List (List ℕ) → Type 0
 AreNoForm words = (form : Form) → words ≢ words_of form
+
+-- The forms that need no other thread.
+abbrev pub IsPlainForm : Form → Type 0
+IsPlainForm (Replay receipts) = ⊥
+IsPlainForm (Plain receipts) = Unit {0}
+IsPlainForm Check = Unit {0}
+
+-- The words are those of no such form.
+abbrev pub AreNoPlainForm : List (List ℕ) → Type 0
+AreNoPlainForm words = (form : Form) → IsPlainForm form → words ≢ words_of form

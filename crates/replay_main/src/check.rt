@@ -1,27 +1,32 @@
 //! The counts of a script.
 
-ghost use Rattle.std.specs.Prelude.{◌≤◌, length, IfOk, OnOk, IfErr};
-ghost use Rattle.replay_main.specs.Reached.{IsCheckedAs, IsFaultOf};
+ghost use Rattle.std.specs.Prelude.{◌≤◌, IfOk, IfErr, IsErrOf};
+ghost use Rattle.outside.specs.Outside.{Rose};
+ghost use Rattle.replay_main.specs.declared.fault.Fault.{Fault as Faulty};
+ghost use Rattle.replay_main.specs.Faults.{IsJudgingFault};
+ghost use Rattle.replay_main.specs.Reached.{IsRead, IsCheckedAs};
+ghost use Rattle.replay_main.specs.Run.{WasSo, DecidesOn, IsOfText};
+ghost use Rattle.std.specs.Prelude.{List, ℕ};
 
 use crate::fault::Fault;
-use crate::part::header_of;
+use crate::incoming::Incoming;
 use captures::resolve;
+use outside::Source;
 use script_text::{Counts, script_by_parts};
 use std::alloc::Global;
 
-/// Judges a text, and gives the counts of the script that it is.
-pub fn checked(alloc: Global, text: &[u8]) -> Result<Counts, Fault>
-    ensures counts { IfOk result (IsCheckedAs text.now) }
-    ensures bytes { OnOk result (length text.now ≤ 268435456) }
-    ensures fault { IfErr result (IsFaultOf text.now) }
+/// Judges the script that a source has, and gives its counts.
+pub fn checked<S: Source>(alloc: Global, source: &mut S) -> Result<Counts, Fault>
+    ensures counts { IfOk result (λ counts. (text : List ℕ) × IsRead (S.left source.old) (S.left source.new) text × IsCheckedAs text counts) }
+    ensures read_fault { IsErrOf result Fault.ReadFault → Rose (S.faults source.old) (S.faults source.new) }
+    ensures decides { (f : Faulty) → IsErrOf result f → IsOfText f → WasSo (DecidesOn f) (S.left source.old) }
+    ensures faults { IfErr result IsJudgingFault }
+    ensures count { S.faults source.old ≤ S.faults source.new }
 {
     script_by_parts();
-    let (_, first) = header_of(alloc, text)?;
-    let mut behind = first;
-    while !behind.rest.is_empty() {
-        let (section, next) = behind.section_of(alloc)?;
+    let (_, mut script) = Incoming::begin(alloc, source)?;
+    while let Some(section) = script.section(alloc, source)? {
         let _ = resolve(alloc, &section)?;
-        behind = next;
     }
-    Ok(behind.counts)
+    Ok(script.counts())
 }

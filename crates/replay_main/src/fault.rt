@@ -3,10 +3,11 @@
 ghost use Rattle.std.specs.Prelude.{◌≡◌, Some};
 ghost use Rattle.captures.specs.declared.section.ResolveFault.TheVariants as resolving;
 ghost use Rattle.script_text.specs.declared.fault.ScriptFault.TheVariants as script;
-ghost use Rattle.replay_main.specs.Faults.{status_of, script_fault, resolve_fault};
+ghost use Rattle.replay_main.specs.Faults.{status_of, script_fault, resolve_fault, read_fault};
 ghost use Rattle.replay_main.specs.declared.fault.Fault.TheVariants.{Memory};
 
 use captures::ResolveFault;
+use outside::ReadError;
 use script_text::{ScriptFault, Which};
 use std::alloc::{AllocError, AllocFailed};
 use thiserror::Error;
@@ -72,6 +73,17 @@ impl<T: Drop> From<AllocFailed<T>> for Fault {
 
     fn from(_: AllocFailed<T>) -> Self {
         Fault::Memory
+    }
+}
+
+impl From<ReadError> for Fault {
+    ghost from_gives = { λ fault e. e ≡ read_fault fault };
+
+    fn from(fault: ReadError) -> Self {
+        match fault {
+            ReadError::Failed => Fault::ReadFault,
+            ReadError::Memory => Fault::Memory,
+        }
     }
 }
 

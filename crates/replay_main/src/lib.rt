@@ -3,9 +3,10 @@
 
 mod check;
 mod fault;
+mod incoming;
 mod laws;
 mod outcome;
-mod part;
+mod parts;
 mod replay;
 #[cfg(test)]
 mod tests;
@@ -13,5 +14,5 @@ mod words;
 
 pub use fault::Fault;
 pub use laws::{one_judgement, serial_can_be_told};
-pub use outcome::{Outcome, run};
+pub use outcome::{Outcome, run, run_plain};
 pub use words::{Form, form_of};

@@ -1,21 +1,22 @@
 //! The top calls: a script is read from a source, judged and replayed, and what was asked for is written to a sink.
 
-ghost use Rattle.std.specs.Prelude.{◌≡◌, ◌≢◌, ◌⊎◌, ◌↔◌, ◌≤◌, ℕ, length, Some, None, IfOk, IfErr, OnOk, IsErrOf, string_bytes};
-ghost use Rattle.std.specs.Io.KnownBytes.{Appends, IsAtEnd};
+ghost use Rattle.std.specs.Prelude.{◌≡◌, ◌≢◌, ◌⊎◌, ◌↔◌, List, ℕ, Some, None, IfOk, IfErr, OnOk, IsErrOf, string_bytes};
+ghost use Rattle.std.specs.Io.KnownBytes.{Appends};
 ghost use Rattle.outside.specs.Outside.{Rose, AppendsPrefix};
 ghost use Rattle.replay_main.specs.declared.fault.Fault.{Fault as Faulty};
 ghost use Rattle.replay_main.specs.declared.words.Form.{Form as Asks};
 ghost use Rattle.replay_main.specs.declared.words.Form.TheVariants.{Plain, Check};
-ghost use Rattle.replay_main.specs.Words.{words_of, AreNoForm};
-ghost use Rattle.replay_main.specs.Faults.{status_of, IsReadingFault, IsJudgingFault};
-ghost use Rattle.replay_main.specs.Run.{HasRun, Gives, WasSo, TellsSo, DecidesOn, LooksLikeScript, IsOfText, AreLookedAt, AreWhole, check_text};
+ghost use Rattle.replay_main.specs.Words.{words_of, IsPlainForm, AreNoForm, AreNoPlainForm};
+ghost use Rattle.replay_main.specs.Faults.{status_of, IsJudgingFault};
+ghost use Rattle.replay_main.specs.Reached.{IsRead};
+ghost use Rattle.replay_main.specs.Run.{HasRun, Gives, WasSo, TellsSo, DecidesOn, LooksLikeScript, IsOfText, check_text};
 
 use crate::check::checked;
 use crate::fault::Fault;
 use crate::replay::replayed;
 use crate::words::{Form, form_of};
 use dump_text::{DumpFault, write_dump};
-use outside::{ArgList, ReadError, Sink, Source, read_all, write_all};
+use outside::{ArgList, Sink, Source, write_all};
 use script_text::Counts;
 use shelf::Report;
 use std::alloc::{AllocError, Global};
@@ -31,9 +32,6 @@ pub struct Outcome {
     pub report: Option<Report>,
 }
 
-/// As many bytes as show that a script has too many.
-const TOO_MANY: usize = 268_435_457;
-
 /// What a run comes to that refuses what it was asked.
 fn refused(fault: Fault) -> Outcome
     ensures { result ≡ record { status = status_of (Some fault); fault = Some fault; report = None } }
@@ -42,21 +40,6 @@ fn refused(fault: Fault) -> Outcome
         status: fault.status(),
         fault: Some(fault),
         report: None,
-    }
-}
-
-/// Reads a source to its end, or up to the byte that passes the limit of scripts.
-fn text_of<S: Source>(alloc: Global, source: &mut S) -> Result<Vec<u8>, Fault>
-    ensures looked { IfOk result (λ text. AreLookedAt text.items (S.left source.old)) }
-    ensures end { IfOk result (λ text. length text.items ≤ 268435456 → IsAtEnd (S.left source.new)) }
-    ensures whole { IfOk result (λ text. length text.items ≤ 268435456 → AreWhole text.items (S.left source.old)) }
-    ensures read_fault { IsErrOf result Fault.ReadFault → Rose (S.faults source.old) (S.faults source.new) }
-    ensures faults { IfErr result IsReadingFault }
-{
-    match read_all(alloc, source, TOO_MANY) {
-        Ok(text) => Ok(text),
-        Err(ReadError::Failed) => Err(Fault::ReadFault),
-        Err(ReadError::Memory) => Err(Fault::Memory),
     }
 }
 
@@ -77,11 +60,7 @@ fn replay_to<S: Source, K: Sink>(
     ensures refused { (f : Faulty) → result.fault ≡ Some f → f ≢ Fault.WriteFault → (result.report ≡ None) × (sink.new ≡ sink.old) }
     ensures status { result.status ≡ status_of result.fault }
 {
-    let text = match text_of(alloc, source) {
-        Ok(text) => text,
-        Err(fault) => return refused(fault),
-    };
-    let report = match replayed(alloc, text.as_slice()) {
+    let report = match replayed(alloc, source) {
         Ok(report) => report,
         Err(fault) => return refused(fault),
     };
@@ -115,15 +94,13 @@ fn check_line(alloc: Global, counts: &Counts) -> Result<String, AllocError>
 
 /// Judges the script that a source has, and gives the line with its counts.
 fn line_of<S: Source>(alloc: Global, source: &mut S) -> Result<String, Fault>
-    ensures gives { IfOk result (λ line. Gives Check (S.left source.old) None (string_bytes line)) }
-    ensures end { OnOk result (IsAtEnd (S.left source.new)) }
+    ensures gives { IfOk result (λ line. (script : List ℕ) × IsRead (S.left source.old) (S.left source.new) script × Gives Check script None (string_bytes line)) }
     ensures script { OnOk result (WasSo LooksLikeScript (S.left source.old)) }
     ensures read_fault { IsErrOf result Fault.ReadFault → Rose (S.faults source.old) (S.faults source.new) }
     ensures decides { (f : Faulty) → IsErrOf result f → IsOfText f → WasSo (DecidesOn f) (S.left source.old) }
     ensures faults { IfErr result IsJudgingFault }
 {
-    let text = text_of(alloc, source)?;
-    let counts = checked(alloc, text.as_slice())?;
+    let counts = checked(alloc, source)?;
     let line = check_line(alloc, &counts)?;
     Ok(line)
 }
@@ -155,6 +132,50 @@ fn check_to<S: Source, K: Sink>(alloc: Global, source: &mut S, sink: &mut K) -> 
             fault: Some(Fault::WriteFault),
             report: None,
         },
+    }
+}
+
+/// Does what the words ask for that need no other thread: with `plain` it reads a script from the source to its end,
+/// replays it and writes its dump to the sink; with `check` it judges the script and writes its counts.
+///
+/// The words of `replay` are none of its words. Want of memory is the one fault that needs no cause.
+pub fn run_plain<S: Source, K: Sink>(
+    alloc: Global,
+    words: &ArgList,
+    source: &mut S,
+    sink: &mut K,
+) -> Outcome
+    // Without a fault all was read, replayed and written; after a write fault a front was written.
+    ensures done { result.fault ≡ None → (form : Asks) × IsPlainForm form × (words.now ≡ words_of form)
+        × HasRun form (S.left source.old) (S.left source.new) result.report (Appends (K.written sink.old) (K.written sink.new)) }
+    ensures cut_off { result.fault ≡ Some Fault.WriteFault → (form : Asks) × IsPlainForm form × (words.now ≡ words_of form)
+        × HasRun form (S.left source.old) (S.left source.new) result.report (AppendsPrefix (K.written sink.old) (K.written sink.new)) }
+
+    // The causes of the faults.
+    ensures usage { (result.fault ≡ Some Fault.Usage) ↔ AreNoPlainForm words.now }
+    ensures read_fault { result.fault ≡ Some Fault.ReadFault → Rose (S.faults source.old) (S.faults source.new) }
+    ensures write_fault { result.fault ≡ Some Fault.WriteFault → Rose (K.faults sink.old) (K.faults sink.new) }
+    ensures decides { (f : Faulty) → result.fault ≡ Some f → IsOfText f → WasSo (DecidesOn f) (S.left source.old) }
+
+    // Where nothing outside failed and memory was not wanting, a script is done, and another text has its fault.
+    ensures complete { (form : Asks) → IsPlainForm form → words.now ≡ words_of form → TellsSo LooksLikeScript (S.left source.old) →
+        (Rose (S.faults source.old) (S.faults source.new) → ⊥) → (Rose (K.faults sink.old) (K.faults sink.new) → ⊥) →
+        (result.fault ≡ None) ⊎ (result.fault ≡ Some Fault.Memory) }
+    ensures exact { (form : Asks) (f : Faulty) → IsPlainForm form → words.now ≡ words_of form → TellsSo (DecidesOn f) (S.left source.old) →
+        (Rose (S.faults source.old) (S.faults source.new) → ⊥) → (Rose (K.faults sink.old) (K.faults sink.new) → ⊥) →
+        (result.fault ≡ Some f) ⊎ (result.fault ≡ Some Fault.Memory) }
+
+    // After every other fault there is no report, and the sink is as it was. Other words read nothing.
+    ensures refused { (f : Faulty) → result.fault ≡ Some f → f ≢ Fault.WriteFault → (result.report ≡ None) × (sink.new ≡ sink.old) }
+    ensures unread { result.fault ≡ Some Fault.Usage → source.new ≡ source.old }
+
+    ensures status { result.status ≡ status_of result.fault }
+{
+    match form_of(words) {
+        None => refused(Fault::Usage),
+        Some(Form::Replay { .. }) => refused(Fault::Usage),
+        Some(Form::Plain { receipts }) => replay_to(alloc, receipts, source, sink),
+        Some(Form::Check) => check_to(alloc, source, sink),
     }
 }
 
@@ -197,7 +218,7 @@ pub fn run<S: Source, K: Sink>(
     match form_of(words) {
         None => refused(Fault::Usage),
         Some(Form::Replay { receipts }) => replay_to(alloc, receipts, source, sink),
-        Some(Form::Plain { receipts }) => replay_to(alloc, receipts, source, sink),
-        Some(Form::Check) => check_to(alloc, source, sink),
+        Some(Form::Plain { .. }) => run_plain(alloc, words, source, sink),
+        Some(Form::Check) => run_plain(alloc, words, source, sink),
     }
 }

@@ -1,4 +1,4 @@
-use crate::{Fault, Outcome, run};
+use crate::{Fault, Outcome, run, run_plain};
 use outside::{ArgList, MemSink, MemSource};
 use script_text::Which;
 use std::alloc::{AllocError, Global};
@@ -29,6 +29,66 @@ apps\n\
 ifaces\n\
 end\n";
 
+// A capture of packets that were cut short, four lanes, tags and two collections.
+const FOUR_LANES: &[u8] = b"netacct 1\n\
+if 1 lo\n\
+if 2 wlan0\n\
+section\n\
+desk\n\
+tag 10050 77 10050 7\n\
+set 1000 10051 1\n\
+section\n\
+cap d4c3b2a10200040000000000000000000000040071000000\n\
+cap 0000000000000000240000004400000000000001000602000000000a00000800450000340000400040060000c0000201c6336401\n\
+cap 000000000000000038000000ed05000000000001000602000000000a000086dd6000000005b5064020010db800000000000000000000000120010db8000000000000000000000002\n\
+lane\n\
+rin 10050 77 2 0\n\
+rout 10050 77 2 1\n\
+lane\n\
+rin 10051 0 2 1\n\
+lane\n\
+iin 10050 2 4 52\n\
+iout 10050 2 6 1501\n\
+lane\n\
+in 10050 0 1 4 84 -\n\
+section\n\
+desk\n\
+collect\n\
+section\n\
+lane\n\
+out 10051 0 2 4 40 -\n\
+section\n\
+desk\n\
+collect\n";
+
+const FOUR_LANES_DUMP: &[u8] = b"netacct-dump 1\n\
+calls 7 pass 5 drop 0 full 0\n\
+writes 2 phase 2\n\
+replies\n\
+reply 6 done\n\
+reply 7 done\n\
+reply 24 done\n\
+reply 30 done\n\
+snapshot 0\n\
+row 10050 0 0 lo 1 84 0 0\n\
+row 10050 0 0 wlan0 1 52 2 1573\n\
+row 10050 7 0 wlan0 1 52 2 1573\n\
+row 10051 0 1 wlan0 2 1573 0 0\n\
+snapshot 1\n\
+row 10051 0 1 wlan0 0 0 1 40\n\
+live 2\n\
+total\n\
+row 10050 0 0 lo 1 84 0 0\n\
+row 10050 0 0 wlan0 1 52 2 1573\n\
+row 10050 7 0 wlan0 1 52 2 1573\n\
+row 10051 0 1 wlan0 2 1573 1 40\n\
+apps\n\
+app 10050 2 136 2 1573\n\
+app 10051 2 1573 1 40\n\
+ifaces\n\
+iface wlan0 1 52 2 1573\n\
+end\n";
+
 // Words, as a program is called with them.
 fn words(alloc: Global, all: &[&str]) -> Result<ArgList, AllocError> {
     let mut words = ArgList::new(alloc);
@@ -38,18 +98,29 @@ fn words(alloc: Global, all: &[&str]) -> Result<ArgList, AllocError> {
     Ok(words)
 }
 
-// What `replay` comes to on a script that is read in pieces of 10 bytes, and what it writes in pieces of 16.
+// What `replay` comes to on a script that is read in pieces of so many bytes, and what it writes in pieces of 16.
 // The calls of these numbers fail.
+fn replay_in_pieces(
+    alloc: Global,
+    script: &[u8],
+    piece: usize,
+    failing_read: u64,
+    failing_write: u64,
+) -> Result<(Outcome, MemSink), AllocError> {
+    let mut source = MemSource::new(alloc, script, piece, &[failing_read])?;
+    let mut sink = MemSink::new(alloc, 4_096, 16, &[failing_write])?;
+    let outcome = run(alloc, &words(alloc, &["replay"])?, &mut source, &mut sink);
+    Ok((outcome, sink))
+}
+
+// The same with pieces of 10 bytes.
 fn replay(
     alloc: Global,
     script: &[u8],
     failing_read: u64,
     failing_write: u64,
 ) -> Result<(Outcome, MemSink), AllocError> {
-    let mut source = MemSource::new(alloc, script, 10, &[failing_read])?;
-    let mut sink = MemSink::new(alloc, 4_096, 16, &[failing_write])?;
-    let outcome = run(alloc, &words(alloc, &["replay"])?, &mut source, &mut sink);
-    Ok((outcome, sink))
+    replay_in_pieces(alloc, script, 10, failing_read, failing_write)
 }
 
 #[test]
@@ -68,35 +139,72 @@ fn scripts_are_replayed(rt: HostRuntime) -> Result<(), Fail> {
     Ok(())
 }
 
+// A script is the same however its bytes come in: all at once, or line ends apart from their lines.
+#[test]
+fn pieces_change_nothing(rt: HostRuntime) -> Result<(), Fail> {
+    for piece in [1, 7, 4_096] {
+        let (outcome, sink) = replay_in_pieces(rt.alloc(), FOUR_LANES, piece, 0, 0)?;
+        assert_eq!(rt; (outcome.status, outcome.fault), (0, None));
+        assert_eq!(rt; sink.written(), FOUR_LANES_DUMP);
+    }
+    Ok(())
+}
+
 #[test]
 fn a_failed_read_leaves_the_sink_empty(rt: HostRuntime) -> Result<(), Fail> {
-    let (outcome, sink) = replay(rt.alloc(), ONE_PACKET, 3, 0)?;
-    assert_eq!(rt;
-        (outcome.status, outcome.fault),
-        (3, Some(Fault::ReadFault))
-    );
-    assert!(rt; outcome.report.is_none());
-    assert_eq!(rt; sink.written(), b"".as_slice());
+    for piece in [1, 7, 10] {
+        let (outcome, sink) = replay_in_pieces(rt.alloc(), ONE_PACKET, piece, 3, 0)?;
+        assert_eq!(rt;
+            (outcome.status, outcome.fault),
+            (3, Some(Fault::ReadFault))
+        );
+        assert!(rt; outcome.report.is_none());
+        assert_eq!(rt; sink.written(), b"".as_slice());
+    }
     Ok(())
 }
 
 #[test]
 fn a_failed_write_leaves_a_front_of_the_dump(rt: HostRuntime) -> Result<(), Fail> {
-    let (outcome, sink) = replay(rt.alloc(), ONE_PACKET, 0, 2)?;
-    assert_eq!(rt;
-        (outcome.status, outcome.fault),
-        (4, Some(Fault::WriteFault))
-    );
-    assert!(rt; outcome.report.is_some());
-    assert_eq!(rt; sink.written(), b"netacct-dump 1\nc".as_slice());
+    for piece in [1, 7, 4_096] {
+        let (outcome, sink) = replay_in_pieces(rt.alloc(), ONE_PACKET, piece, 0, 2)?;
+        assert_eq!(rt;
+            (outcome.status, outcome.fault),
+            (4, Some(Fault::WriteFault))
+        );
+        assert!(rt; outcome.report.is_some());
+        assert_eq!(rt; sink.written(), b"netacct-dump 1\nc".as_slice());
+    }
     Ok(())
 }
 
 #[test]
 fn a_text_has_its_fault(rt: HostRuntime) -> Result<(), Fail> {
-    let cases: [(&[u8], u8, Fault); 4] = [
+    let cases: [(&[u8], u8, Fault); 9] = [
+        (b"", 5, Fault::Syntax { line: 1 }),
+        (
+            b"netacct 1\nsection\nlane\nin 10050 0 2 4 60 -",
+            5,
+            Fault::Syntax { line: 4 },
+        ),
+        (
+            b"netacct 1\nsection\nlane\nin 010050 0 2 4 60 -\n",
+            5,
+            Fault::Syntax { line: 4 },
+        ),
         (b"netacct 1\nsection\nlane", 5, Fault::Syntax { line: 3 }),
         (b"netacct 1\nlane\n", 5, Fault::Syntax { line: 2 }),
+        // The first section that has a fault decides, whatever stands behind it.
+        (
+            b"netacct 1\nsection\nlane\nrin 10050 0 2 0\nsection\nlanes\n",
+            8,
+            Fault::NoPacket { line: 4 },
+        ),
+        (
+            b"netacct 1\nsection\nlane\nsection\nlane\nlanes\nsection\nlane\nrin 10050 0 2 0\n",
+            5,
+            Fault::Syntax { line: 6 },
+        ),
         (
             b"netacct 1\nsection\ncap 00\nlane\nrin 10050 0 2 0\n",
             7,
@@ -109,9 +217,11 @@ fn a_text_has_its_fault(rt: HostRuntime) -> Result<(), Fail> {
         ),
     ];
     for (script, status, fault) in cases {
-        let (outcome, sink) = replay(rt.alloc(), script, 0, 0)?;
-        assert_eq!(rt; (outcome.status, outcome.fault), (status, Some(fault)));
-        assert_eq!(rt; sink.written(), b"".as_slice());
+        for piece in [1, 7, 4_096] {
+            let (outcome, sink) = replay_in_pieces(rt.alloc(), script, piece, 0, 0)?;
+            assert_eq!(rt; (outcome.status, outcome.fault), (status, Some(fault)));
+            assert_eq!(rt; sink.written(), b"".as_slice());
+        }
     }
     Ok(())
 }
@@ -134,6 +244,30 @@ fn words_say_what_is_done(rt: HostRuntime) -> Result<(), Fail> {
         let mut source = MemSource::new(alloc, ONE_PACKET, 10, &[])?;
         let mut sink = MemSink::new(alloc, 4_096, 16, &[])?;
         let outcome = run(alloc, &words(alloc, call)?, &mut source, &mut sink);
+        assert_eq!(rt; outcome.fault, fault);
+        assert_eq!(rt; sink.written(), written);
+    }
+    Ok(())
+}
+
+// Without other threads the words of `replay` are no words.
+#[test]
+fn plain_words_need_no_thread(rt: HostRuntime) -> Result<(), Fail> {
+    let alloc = rt.alloc();
+    let cases: [(&[&str], Option<Fault>, &[u8]); 4] = [
+        (&["plain"], None, ONE_PACKET_DUMP),
+        (
+            &["check"],
+            None,
+            b"check lines 4 sections 1 hooks 1 desk 0\n",
+        ),
+        (&["replay"], Some(Fault::Usage), b""),
+        (&["replay", "--receipts"], Some(Fault::Usage), b""),
+    ];
+    for (call, fault, written) in cases {
+        let mut source = MemSource::new(alloc, ONE_PACKET, 10, &[])?;
+        let mut sink = MemSink::new(alloc, 4_096, 16, &[])?;
+        let outcome = run_plain(alloc, &words(alloc, call)?, &mut source, &mut sink);
         assert_eq!(rt; outcome.fault, fault);
         assert_eq!(rt; sink.written(), written);
     }

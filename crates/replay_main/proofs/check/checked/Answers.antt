@@ -1,49 +1,78 @@
-use Rattle.std.proofs.Common.{◌≡◌, ap, sym, Err}
+use Rattle.std.proofs.Common.{◌≡◌, ◌∙◌, ℕ, List, Option, true, ap, sym, subst, Err, arith, rules}
 use Rattle.std.proofs.lemmas.Result.{err_from_is_err_and}
-use Rattle.script_text.specs.Faults.{BeginsSection}
+use Rattle.replay_main.specs.declared.incoming.Incoming.{Incoming}
+use Rattle.replay_main.specs.Reached.{IsRead, IsCheckedAs}
 use Rattle.replay_main.proofs.Counting.{capture_small}
-use Rattle.replay_main.proofs.Judging.{counted_first, counted_more, counted_short, none_left, section_begins, section_fault, calls_fault}
+use Rattle.replay_main.proofs.Outsides.{err_is, some_is}
+use Rattle.replay_main.proofs.Coming.{may_come, section_shorter, counted_begins, counted_goes_on, counted_fails, counted_lacks_calls, counted_over}
 use Rattle.replay_main.proofs.check.checked.Goals as goal
 
-pub loop-alloc-init : goal.loop-alloc-init
-loop-alloc-init c =
-    let e = c.in_ok-first.ensures in
-    counted_first c.args.text.now c.in_ok-first.first.rest.now c.in_ok-first.field-0-0 c.in_ok-first.first.counts e.header e.counts e.read e.behind
+pub loop-script-init : goal.loop-script-init
+loop-script-init g c =
+    let e = c.in_ok-script.ensures in
+    record {
+      so_far = counted_begins _ _ c.in_ok-script.script c.in_ok-script.field-0-0 e.come e.header e.counts e.within;
+      count = c.begin.ensures.count;
+    }
 
-pub returns-in_err-section-clause-fault : goal.returns-in_err-section-clause-fault
-returns-in_err-section-clause-fault c =
+pub section-requires-clause-coming : goal.section-requires-clause-coming
+section-requires-clause-coming g c = let s = c.loop-script.invariant.so_far in may_come _ _ c.loop-script.script s.0 s.1
+
+pub section-requires-clause-within : goal.section-requires-clause-within
+section-requires-clause-within g c = c.loop-script.invariant.so_far.2.within
+
+pub returns-in_err-section-clause-decides : goal.returns-in_err-section-clause-decides
+returns-in_err-section-clause-decides g c = λ f is of.
     let p = err_from_is_err_and c.from_residual-in_err-section.result c.from_residual-in_err-section.ensures.1 in
-    let i = c.loop-alloc.invariant in
-    let rest = c.loop-alloc.behind.rest.now in
-    let begins = section_begins c.is_empty.result rest c.is_empty.ensures c.loop-alloc-test.true i.behind.next in
-    rw p.1 (section_fault c.args.text.now rest i.header i.sections i.calls c.loop-alloc.behind.counts c.in_err-section.field-0.0 p.0 p.2 i.judged i.counts_are begins
-    (λ line is. c.in_err-section.ensures.syntax line (ap Err is)) (λ w line is. c.in_err-section.ensures.limit w line (ap Err is)))
+    let e : f ≡ c.in_err-section.field-0.0 = err_is _ _ _ is p.1 ∙ p.2 in
+    counted_fails c.script_by_parts.ensures.syntax c.script_by_parts.ensures.limit _ _ _ c.loop-script.script c.section.new.self.parts f c.loop-script.invariant.so_far
+    (c.in_err-section.ensures.decides f (ap Err (sym e)) of)
 
 pub resolve-requires-clause-small : goal.resolve-requires-clause-small
-resolve-requires-clause-small c = capture_small c.loop-alloc.behind.counts c.in_ok-section.section c.in_ok-section.ensures.section
+resolve-requires-clause-small g c = capture_small c.loop-script.script.counts c.in-Some.section (some_is _ c.in_ok-section.ensures.section c.in-Some.is)
 
-pub returns-in_err-resolve-clause-fault : goal.returns-in_err-resolve-clause-fault
-returns-in_err-resolve-clause-fault c =
+pub returns-in_err-resolve-clause-decides : goal.returns-in_err-resolve-clause-decides
+returns-in_err-resolve-clause-decides g c = λ f is of.
     let p = err_from_is_err_and c.from_residual-in_err-resolve.result c.from_residual-in_err-resolve.ensures.1 in
-    let i = c.loop-alloc.invariant in
-    let e = c.in_ok-section.ensures in
-    rw p.1 (calls_fault c.args.text.now c.loop-alloc.behind.rest.now c.in_ok-section.next.rest.now i.header i.sections i.calls c.loop-alloc.behind.counts c.in_ok-section.section
-    c.in_err-resolve.field-0.0 p.0 p.2 i.judged i.counts_are e.section e.read e.behind.next
-    (λ line place is. c.in_err-resolve.ensures.bad line place (ap Err is)) (λ line is. c.in_err-resolve.ensures.missing line (ap Err is)))
+    let o = c.in_ok-section.ensures in
+    let at = c.in-Some.is in
+    counted_lacks_calls _ _ _ c.loop-script.script c.section.new.self c.in-Some.section c.in_err-resolve.field-0.0 f c.loop-script.invariant.so_far (some_is _ o.was at) (some_is _ o.takes at) (some_is _ o.section at)
+    (err_is _ _ _ is p.1 ∙ p.2) (λ line place is. c.in_err-resolve.ensures.bad line place (ap Err is)) (λ line is. c.in_err-resolve.ensures.missing line (ap Err is)) of
 
-pub loop-alloc-preserved-in_ok-resolve : goal.loop-alloc-preserved-in_ok-resolve
-loop-alloc-preserved-in_ok-resolve c =
-    let e = c.in_ok-section.ensures in
-    counted_more c.script_by_parts.ensures.grows c.args.text.now c.loop-alloc.behind.rest.now c.in_ok-section.next.rest.now c.loop-alloc.behind.counts c.in_ok-section.next.counts c.in_ok-section.section _
-    c.loop-alloc.invariant e.section e.counts e.read e.behind c.in_ok-resolve.ensures.calls
+pub loop-script-smaller-in_ok-resolve : goal.loop-script-smaller-in_ok-resolve
+loop-script-smaller-in_ok-resolve g c =
+    let o = c.in_ok-section.ensures in
+    section_shorter c.loop-script.script.counts c.section.new.self.counts c.in-Some.section (some_is _ o.counts c.in-Some.is) (some_is _ o.within c.in-Some.is)
 
-pub loop-alloc-preserved : goal.loop-alloc-preserved
-loop-alloc-preserved c =
-    let e = c.in_ok-section.ensures in
-    counted_more c.script_by_parts.ensures.grows c.args.text.now c.loop-alloc.behind.rest.now c.in_ok-section.next.rest.now c.loop-alloc.behind.counts c.in_ok-section.next.counts c.in_ok-section.section _
-    c.loop-alloc.invariant e.section e.counts e.read e.behind c.in_ok-resolve.ensures.calls
+pub loop-script-preserved-in_ok-resolve : goal.loop-script-preserved-in_ok-resolve
+loop-script-preserved-in_ok-resolve g c =
+    let o = c.in_ok-section.ensures in
+    let at = c.in-Some.is in
+    record {
+      so_far = counted_goes_on c.script_by_parts.ensures.grows _ _ _ c.loop-script.script c.section.new.self c.in-Some.section _ c.loop-script.invariant.so_far (some_is _ o.section at) (some_is _ o.counts at) (some_is _ o.within at) (some_is _ o.takes at) c.in_ok-resolve.ensures.calls;
+      count = omega (arith, c.loop-script.invariant.count, c.section.ensures.count);
+    }
 
-pub returns-clause-bytes : goal.returns-clause-bytes
-returns-clause-bytes c =
-    let i = c.loop-alloc.invariant in
-    counted_short c.args.text.now c.loop-alloc.behind.rest.now c.loop-alloc.behind.counts i (none_left c.is_empty.result c.loop-alloc.behind.rest.now c.is_empty.ensures c.loop-alloc-test.false)
+pub loop-script-smaller : goal.loop-script-smaller
+loop-script-smaller g c =
+    let o = c.in_ok-section.ensures in
+    section_shorter c.loop-script.script.counts c.section.new.self.counts c.in-Some.section (some_is _ o.counts c.in-Some.is) (some_is _ o.within c.in-Some.is)
+
+pub loop-script-preserved : goal.loop-script-preserved
+loop-script-preserved g c =
+    let o = c.in_ok-section.ensures in
+    let at = c.in-Some.is in
+    record {
+      so_far = counted_goes_on c.script_by_parts.ensures.grows _ _ _ c.loop-script.script c.section.new.self c.in-Some.section _ c.loop-script.invariant.so_far (some_is _ o.section at) (some_is _ o.counts at) (some_is _ o.within at) (some_is _ o.takes at) c.in_ok-resolve.ensures.calls;
+      count = omega (arith, c.loop-script.invariant.count, c.section.ensures.count);
+    }
+
+pub returns-clause-counts : goal.returns-clause-counts
+returns-clause-counts g c =
+    let over : (c.loop-script.script.is_over ≡ true) × (c.section.new.self ≡ c.loop-script.script) × (c.section.new.source ≡ c.loop-script.source) = search rules in
+    let at = counted_over _ _ c.loop-script.script c.loop-script.invariant.so_far over.0 in
+    let counted : c.counts.result ≡ c.loop-script.script.counts = c.counts.ensures ∙ ap (λ (i : Incoming). i.counts) over.1 in (
+      at.0,
+      subst (λ (left : Option (List ℕ)). IsRead (g.S.Source.left c.args.source.now) left at.0) (ap g.S.Source.left (sym over.2)) at.1,
+      subst (IsCheckedAs at.0) (sym counted) at.2,
+    )

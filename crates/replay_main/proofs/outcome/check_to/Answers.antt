@@ -7,4 +7,5 @@ pub returns-clause-cut_off : goal.returns-clause-cut_off
 returns-clause-cut_off g c = λ _.
     let same : c.as_bytes.result.now ≡ string_bytes c.in-Ok.line = search rules in
     let front = AppendsPrefix (g.K.Sink.written c.args.sink.now) (g.K.Sink.written c.write_all.new.sink) in
-    record { text = _; end = c.in-Ok.ensures.end; gives = c.in-Ok.ensures.gives; writes = subst (λ (t : List ℕ). front t) same c.in-Err-write_all.ensures.prefix }
+    let at = c.in-Ok.ensures.gives in
+    record { script = at.0; read = at.1; text = _; gives = at.2; writes = subst (λ (t : List ℕ). front t) same c.in-Err-write_all.ensures.prefix }

@@ -1,5 +1,6 @@
-use Rattle.std.proofs.Common.{◌≡◌, ap, Err, refl, sym, rules}
+use Rattle.std.proofs.Common.{rules}
 use Rattle.replay_main.proofs.Outsides.{complete_run, exact_run, replay_run}
+use Rattle.replay_main.proofs.WordLists.{plain_too, usage_apart}
 use Rattle.replay_main.proofs.OneJudgement.{script_has_no_fault, one_fault}
 use Rattle.replay_main.specs.declared.words.Form.TheVariants.{Replay, Plain, Check}
 use Rattle.replay_main.proofs.outcome.run.Goals as goal
@@ -20,22 +21,36 @@ returns-in-Some-Replay-clause-exact g c = λ form f words tells unread unwritten
     let e = c.replay_to.ensures in
     exact_run _ _ _ _ e.usage e.read_fault unread e.write_fault unwritten e.decides script_has_no_fault one_fault f tells e.script
 
+pub returns-in-Some-Plain-clause-done : goal.returns-in-Some-Plain-clause-done
+returns-in-Some-Plain-clause-done g c = λ none. let d = c.run_plain.ensures.done none in (d.0, d.2, d.3)
+
+pub returns-in-Some-Plain-clause-cut_off : goal.returns-in-Some-Plain-clause-cut_off
+returns-in-Some-Plain-clause-cut_off g c = λ is. let d = c.run_plain.ensures.cut_off is in (d.0, d.2, d.3)
+
+pub returns-in-Some-Plain-clause-usage : goal.returns-in-Some-Plain-clause-usage
+returns-in-Some-Plain-clause-usage g c = usage_apart _ c.args.words.now (Plain c.in-Some-Plain.field-0-0) tt (search rules) c.run_plain.ensures.usage
+
 pub returns-in-Some-Plain-clause-complete : goal.returns-in-Some-Plain-clause-complete
 returns-in-Some-Plain-clause-complete g c = λ form words tells unread unwritten.
-    let e = c.replay_to-in-Some-Plain.ensures in
-    complete_run _ _ _ _ e.usage e.read_fault unread e.write_fault unwritten e.decides script_has_no_fault tells
+    c.run_plain.ensures.complete form (plain_too c.args.words.now form (Plain c.in-Some-Plain.field-0-0) words (search rules) tt) words tells unread unwritten
 
 pub returns-in-Some-Plain-clause-exact : goal.returns-in-Some-Plain-clause-exact
 returns-in-Some-Plain-clause-exact g c = λ form f words tells unread unwritten.
-    let e = c.replay_to-in-Some-Plain.ensures in
-    exact_run _ _ _ _ e.usage e.read_fault unread e.write_fault unwritten e.decides script_has_no_fault one_fault f tells e.script
+    c.run_plain.ensures.exact form f (plain_too c.args.words.now form (Plain c.in-Some-Plain.field-0-0) words (search rules) tt) words tells unread unwritten
+
+pub returns-in-Some-Check-clause-done : goal.returns-in-Some-Check-clause-done
+returns-in-Some-Check-clause-done g c = λ none. let d = c.run_plain-in-Some-Check.ensures.done none in (d.0, d.2, d.3)
+
+pub returns-in-Some-Check-clause-cut_off : goal.returns-in-Some-Check-clause-cut_off
+returns-in-Some-Check-clause-cut_off g c = λ is. let d = c.run_plain-in-Some-Check.ensures.cut_off is in (d.0, d.2, d.3)
+
+pub returns-in-Some-Check-clause-usage : goal.returns-in-Some-Check-clause-usage
+returns-in-Some-Check-clause-usage g c = usage_apart _ c.args.words.now (Check) tt (search rules) c.run_plain-in-Some-Check.ensures.usage
 
 pub returns-in-Some-Check-clause-complete : goal.returns-in-Some-Check-clause-complete
 returns-in-Some-Check-clause-complete g c = λ form words tells unread unwritten.
-    let e = c.check_to.ensures in
-    complete_run _ _ _ _ e.usage e.read_fault unread e.write_fault unwritten e.decides script_has_no_fault tells
+    c.run_plain-in-Some-Check.ensures.complete form (plain_too c.args.words.now form (Check) words (search rules) tt) words tells unread unwritten
 
 pub returns-in-Some-Check-clause-exact : goal.returns-in-Some-Check-clause-exact
 returns-in-Some-Check-clause-exact g c = λ form f words tells unread unwritten.
-    let e = c.check_to.ensures in
-    exact_run _ _ _ _ e.usage e.read_fault unread e.write_fault unwritten e.decides script_has_no_fault one_fault f tells e.script
+    c.run_plain-in-Some-Check.ensures.exact form f (plain_too c.args.words.now form (Check) words (search rules) tt) words tells unread unwritten
