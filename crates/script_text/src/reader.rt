@@ -56,9 +56,6 @@ impl<'a> Reader<'a> {
         ensures limit { (w : Which) (n : ℕ) → IsErrOf result (ScriptFault.Limit w n) →
             (n ≡ self.old.number) × LimitAt w self.old.place (second_of names.now) self.old.tally self.old.rest.now }
     {
-        if let Some(hook) = self.next_packet(alloc) {
-            return Ok(Line::Hook(hook));
-        }
         match next_line(
             alloc,
             self.place,
