@@ -197,7 +197,7 @@ const IPV4: [u8; 2] = [0x08, 0x00];
 const IPV6: [u8; 2] = [0x86, 0xdd];
 
 // For each link type the shortest usable packet, the longest unusable one and others, with what is known of them.
-fn links() -> [(File, Told); 17] {
+fn links() -> [(File, Told); 24] {
     [
         (file_of(1, 12, IPV4, 14, 15), Some((Family::V4, 1, 0))),
         (file_of(1, 12, IPV4, 14, 14), None),
@@ -222,12 +222,34 @@ fn links() -> [(File, Told); 17] {
         ),
         (file_of(101, 0, [0x45, 0], 20, 262145), None),
         (file_of(101, 0, [0x60, 0], 1, 1), Some((Family::V6, 1, 1))),
+        (
+            file_of(101, 0, [0x50, 0], 1, 1),
+            Some((Family::Other, 1, 1)),
+        ),
         (file_of(113, 14, IPV6, 16, 17), Some((Family::V6, 1, 0))),
         (file_of(113, 14, IPV6, 15, 17), None),
+        (file_of(113, 14, IPV6, 16, 16), None),
+        (
+            file_of(113, 14, IPV6, 20, 262160),
+            Some((Family::V6, 262144, 4)),
+        ),
         (file_of(113, 14, IPV6, 16, 262161), None),
+        (
+            file_of(113, 14, [0x08, 0x06], 16, 60),
+            Some((Family::Other, 44, 0)),
+        ),
         (file_of(276, 0, IPV4, 20, 21), Some((Family::V4, 1, 0))),
         (file_of(276, 0, IPV4, 19, 21), None),
+        (file_of(276, 0, IPV4, 20, 20), None),
+        (
+            file_of(276, 0, IPV4, 20, 262164),
+            Some((Family::V4, 262144, 0)),
+        ),
         (file_of(276, 0, IPV4, 20, 262165), None),
+        (
+            file_of(276, 0, [0x08, 0x06], 20, 60),
+            Some((Family::Other, 40, 0)),
+        ),
     ]
 }
 

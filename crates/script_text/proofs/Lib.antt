@@ -1,5 +1,6 @@
 pub mod Runs
 pub mod HexFields
+pub mod HexDigits
 pub mod Uids
 pub mod HookLines
 pub mod Unread

@@ -1,5 +1,5 @@
 -- Lines are told apart by their texts.
-use Rattle.std.proofs.Common.{◌≡◌, ◌≢◌, ℕ, ◌+◌, ◌^◌, ◌<◌, ◌≤◌, Bool, true, false, eqb, List, [], ◌∷◌, ◌++◌, length, length-append, refl, sym, ap, ◌∙◌, append_assoc, arith, inl, inr}
+use Rattle.std.proofs.Common.{◌≡◌, ◌≢◌, ℕ, ◌+◌, ◌-◌, ◌^◌, ◌<◌, ◌≤◌, Bool, true, false, eqb, List, [], ◌∷◌, ◌++◌, length, length-append, refl, sym, ap, ◌∙◌, append_assoc, arith, inl, inr}
 use Rattle.std.specs.Prelude.{◌&&◌, IsTrue, nat_lt, nat_le, if◌then◌else◌, Some, None}
 use Rattle.std.proofs.lemmas.List.{append-nil}
 use Rattle.script_text.specs.declared.limits.Tally.{Tally}
@@ -65,7 +65,7 @@ head_field : (bs : List ℕ) → AreBytes bs → IsField (head_word bs)
 head_field [] h = (omega arith, tt)
 head_field (b ∷ bs) h = hex_field (b ∷ bs) h
 
-both_true : (a b : Bool) → (a && b) ≡ true → (a ≡ true) × (b ≡ true)
+pub both_true : (a b : Bool) → (a && b) ≡ true → (a ≡ true) × (b ≡ true)
 both_true true true e = (refl, refl)
 both_true true false e = absurd cc
 both_true false b e = absurd cc
@@ -351,3 +351,17 @@ pub line_size : (text behind all : List ℕ) (l : Line) → all ≡ text ++ 10 �
 line_size text behind all l is fields =
     let bytes : text ≡ bare l = sym (join_with_byte-slice_split 32 text) ∙ ap (join_with_byte 32) fields in
     omega (arith, ap length bytes, ap length (line_text_is (line_fields l)), length-append (bare l) (10 ∷ []))
+
+-- the sizes of a line that stands in front
+pub sizes_front : (rest behind : List ℕ) (l : Line) → IsLine l → rest ≡ spelled l ++ behind
+    → (length rest - length behind - 1 ≡ length (before_feed rest)) × (length rest - length behind ≡ length (first_line rest)) × (length rest - length behind ≡ length (spelled l))
+sizes_front rest behind l fits e =
+    let cut : rest ≡ bare l ++ 10 ∷ behind = e ∙ line_then l behind in
+    let none = bare_no_feed l fits in
+    let part : before_feed rest ≡ bare l = ap before_feed cut ∙ before_feed_cut (bare l) behind none in
+    let whole : first_line rest ≡ bare l ++ 10 ∷ [] = ap first_line cut ∙ first_line_cut (bare l) behind none in
+    let size = ap length cut ∙ length-append (bare l) (10 ∷ behind) in (
+      omega (arith, size, ap length part),
+      omega (arith, size, ap length whole, length-append (bare l) (10 ∷ [])),
+      omega (arith, ap length e, length-append (spelled l) behind),
+    )

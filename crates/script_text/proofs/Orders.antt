@@ -13,7 +13,7 @@ use Rattle.script_text.specs.Parts.{lines_text}
 use Rattle.script_text.specs.Order.{place_of, place_behind, names_in, Stands, MayStand, InOrder}
 use Rattle.script_text.specs.Limits.{passed_by_bytes, passed, added, tallied, KeepLimits, IsSmall, IsWithinLimits, counts_of, tally_before}
 use Rattle.script_text.specs.Faults.{IsNextPart, FailsAt}
-use Rattle.script_text.specs.Drafts.{Takes, second_of}
+use Rattle.script_text.specs.Drafts.{IsRead, IsReadTo, Takes, second_of}
 use Rattle.std.proofs.lemmas.List.{append-nil}
 use Rattle.script_text.proofs.Lines.{bytes_same, line_then, bare}
 
@@ -64,16 +64,6 @@ names_push (lines.Hook h ∷ ls) l = names_push ls l
 names_push (lines.Desk ∷ ls) l = names_push ls l
 names_push (lines.Command c ∷ ls) l = names_push ls l
 
--- A part as far as it was read.
-pub record IsRead (from : Place) (t : Tally) (bytes : List ℕ) (ls : List Line) (place : Place) (names : List (List ℕ)) (with : Tally) (rest : List ℕ) : Type 0 where
-  pub fits : AllByRecursion IsLine ls
-  pub order : InOrder from [] ls
-  pub limits : KeepLimits t ls
-  pub place_is : place ≡ place_behind from ls
-  pub names_are : names ≡ names_in ls
-  pub tally_is : with ≡ tallied t ls
-  pub read : bytes ≡ lines_text ls ++ rest
-
 pub read_more : (from : Place) (t : Tally) (bytes : List ℕ) (ls new : List Line) (place : Place) (names after : List (List ℕ)) (with more : Tally) (rest behind : List ℕ) (l : Line)
     → IsRead from t bytes ls place names with rest → Takes place names with rest l more behind → new ≡ ls ++ l ∷ [] → after ≡ names ++ names_in (l ∷ []) → IsRead from t bytes new (place_of l) after more behind
 read_more from t bytes ls new place names after with more rest behind l r k is names_is =
@@ -109,11 +99,6 @@ pub shorter : (l : Line) (rest behind : List ℕ) → rest ≡ spelled l ++ behi
 shorter l rest behind e = omega (arith, ap length e, ap length (line_then l behind), length-append (bare l) (10 ∷ behind))
 
 -- ---- a part as far as its reader has come
-
-pub record IsReadTo (from : Place) (t : Tally) (first : ℕ) (bytes : List ℕ) (ls : List Line) (names : List (List ℕ)) (r : Reader) : Type 0 where
-  pub read : IsRead from t bytes ls r.place names r.tally r.rest.now
-  pub number : r.number ≡ first + length ls
-  pub small : IsSmall r.tally
 
 -- each line has a byte at least
 pub few_lines : (ls : List Line) → length ls ≤ length (lines_text ls)

@@ -1,5 +1,5 @@
 -- What a part as far as it was read may take next.
-use Rattle.std.proofs.Common.{◌≡◌, ℕ, Bool, true, false, [], ◌∷◌, refl, sym, ◌∙◌}
+use Rattle.std.proofs.Common.{◌≡◌, ℕ, Bool, true, false, [], ◌∷◌, refl, sym, subst, ◌∙◌}
 use Rattle.std.specs.Prelude.{None, IsSome, IsSomeAnd}
 use Rattle.script_text.specs.declared.map_name.MapName.{MapName}
 use Rattle.script_text.specs.declared.line.Line.{Line}
@@ -182,3 +182,7 @@ first_is_section lines.Lane e = absurd (true_false (sym e))
 first_is_section (lines.Hook hook) e = absurd (true_false (sym e))
 first_is_section lines.Desk e = absurd (true_false (sym e))
 first_is_section (lines.Command c) e = absurd (true_false (sym e))
+
+-- the same place and the same number
+pub at_same : (p q : Place) (n m : ℕ) (d : Draft) → p ≡ q → n ≡ m → DraftAt q m d → DraftAt p n d
+at_same p q n m d e f at = subst (λ (r : Place). DraftAt r n d) (sym e) (subst (λ (k : ℕ). DraftAt q k d) (sym f) at)

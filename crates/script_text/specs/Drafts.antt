@@ -1,6 +1,6 @@
 -- A part as far as it was read, for the contracts of the parser's parts.
-use Rattle.std.specs.Prelude.{◌≡◌, ◌≢◌, ℕ, List, [], ◌∷◌, ◌++◌, length, map, Option, Some, None, IsSome, IsSomeAnd}
-use Rattle.std.specs.List.{flat_map}
+use Rattle.std.specs.Prelude.{◌≡◌, ◌≢◌, ℕ, ◌+◌, List, [], ◌∷◌, ◌++◌, length, map, Option, Some, None, IsSome, IsSomeAnd}
+use Rattle.std.specs.List.{AllByRecursion, flat_map}
 use Rattle.script_text.specs.declared.line.Line.{Line}
 use Rattle.script_text.specs.declared.line.Line.TheVariants as lines
 use Rattle.script_text.specs.declared.place.Place.{Place}
@@ -9,11 +9,13 @@ use Rattle.script_text.specs.declared.limits.Tally.{Tally}
 use Rattle.script_text.specs.declared.header.Header.{Header}
 use Rattle.script_text.specs.declared.section.Section.{Section}
 use Rattle.script_text.specs.declared.draft.Draft.{Draft}
+use Rattle.script_text.specs.declared.reader.Reader.{Reader}
 use Rattle.script_text.specs.Lines.{IsLine, spelled, LaneLine}
 use Rattle.script_text.specs.Lanes.{ComesNext}
-use Rattle.script_text.specs.Parts.{cap_lines, lane_lines, desk_lines, desk_numbers, line_numbers, given_numbers, section_lines, sum_of}
+use Rattle.script_text.specs.Order.{InOrder, names_in, place_behind}
+use Rattle.script_text.specs.Parts.{cap_lines, lines_text, lane_lines, desk_lines, desk_numbers, line_numbers, given_numbers, section_lines, sum_of}
 use Rattle.script_text.specs.Faults.{IsNext}
-use Rattle.script_text.specs.Limits.{passed, added, IsSmall}
+use Rattle.script_text.specs.Limits.{passed, added, tallied, IsSmall, KeepLimits}
 
 -- No line stands at the front of the text.
 abbrev pub BeginsWithNoLine : List ℕ → Type 0
@@ -98,3 +100,21 @@ DraftTakes d number _ = ⊥
 pub record IsWhole (s : Section) : Type 0 where
   pub captured : sum_of s.caps ≡ length s.capture
   pub numbered : given_numbers s ≡ line_numbers s.first (section_lines s)
+
+-- ---- a part as far as it was read
+
+-- These lines of a part were read, which leave this place, these names, this tally and this rest.
+pub record IsRead (from : Place) (t : Tally) (bytes : List ℕ) (ls : List Line) (place : Place) (names : List (List ℕ)) (with : Tally) (rest : List ℕ) : Type 0 where
+  pub fits : AllByRecursion IsLine ls
+  pub order : InOrder from [] ls
+  pub limits : KeepLimits t ls
+  pub place_is : place ≡ place_behind from ls
+  pub names_are : names ≡ names_in ls
+  pub tally_is : with ≡ tallied t ls
+  pub read : bytes ≡ lines_text ls ++ rest
+
+-- The cursor stands behind these lines of a part.
+pub record IsReadTo (from : Place) (t : Tally) (first : ℕ) (bytes : List ℕ) (ls : List Line) (names : List (List ℕ)) (r : Reader) : Type 0 where
+  pub read : IsRead from t bytes ls r.place names r.tally r.rest.now
+  pub number : r.number ≡ first + length ls
+  pub small : IsSmall r.tally

@@ -7,6 +7,7 @@ ghost use Rattle.script_text.specs.Order.{place_of};
 ghost use Rattle.script_text.specs.Parts.{section_lines};
 ghost use Rattle.script_text.specs.Drafts.{draft_lines, IsDraft, DraftTakes, DraftAt, IsBare, IsWhole};
 
+use crate::hook_line::HookLine;
 use crate::lane::HookLineList;
 use crate::line::Line;
 use crate::section::{CapList, DeskLineList, LaneLineList, Section};
@@ -56,10 +57,7 @@ impl Draft {
         ensures at { OnOk result (DraftAt (place_of line) (number + 1) self.new) }
     {
         match line {
-            Line::Hook(hook) => match &mut self.lane {
-                Some(lane) => lane.push(number, hook),
-                None => unreachable!(),
-            },
+            Line::Hook(hook) => self.add_hook(number, hook),
             Line::Command(command) => match &mut self.desk {
                 Some(desk) => desk.push((number, command)),
                 None => unreachable!(),
@@ -73,6 +71,24 @@ impl Draft {
             Line::Section | Line::Version | Line::Map(_, _) | Line::Priv(_) | Line::If(_, _) => {
                 unreachable!()
             }
+        }
+    }
+
+    /// Takes the next line of the lane under way, which has this number.
+    #[inline(always)]
+    pub fn add_hook(&mut self, number: u64, hook: HookLine<ByteList>) -> Result<(), AllocError>
+        requires draft { IsDraft self.old }
+        requires takes { DraftTakes self.old number (lines.Hook hook) }
+        requires next { number ≡ self.old.first + length (draft_lines self.old) }
+        requires room { number + 1 < 2 ^ 64 }
+        ensures lines { OnOk result (draft_lines self.new ≡ draft_lines self.old ++ lines.Hook hook ∷ []) }
+        ensures first { OnOk result (self.new.first ≡ self.old.first) }
+        ensures draft { OnOk result (IsDraft self.new) }
+        ensures at { OnOk result (DraftAt (place_of (lines.Hook hook)) (number + 1) self.new) }
+    {
+        match &mut self.lane {
+            Some(lane) => lane.push(number, hook),
+            None => unreachable!(),
         }
     }
 

@@ -20,7 +20,7 @@ pub const MOST_UID: u64 = 4_294_967_294;
 pub const MOST_IFACE: u64 = 16_777_215;
 
 /// The greatest recorded length of a packet, in bytes.
-const MOST_LEN: u64 = 262_144;
+pub const MOST_LEN: u64 = 262_144;
 
 /// A line of a lane: a call of one of the packet programs of netd.c. `H` is how a packet's first bytes are held:
 /// a line that was read alone owns them, and a list of lines lends them.

@@ -12,6 +12,9 @@ use desk_core::Command;
 /// The most bytes that a script may have.
 pub const MOST_BYTES: u64 = 268_435_456;
 
+/// The most hook lines that a script may have.
+pub const MOST_HOOKS: u32 = 1_048_576;
+
 /// How much of a script has been read, up to the end of a part of it.
 #[derive(Clone, Copy, Debug, PartialEq, Eq)]
 pub struct Counts {
@@ -135,7 +138,7 @@ impl Tally {
             Some(Which::CaptureBytes)
         } else if self.lanes > 16 {
             Some(Which::Lanes)
-        } else if self.hooks > 1_048_576 {
+        } else if self.hooks > MOST_HOOKS {
             Some(Which::Hooks)
         } else if self.desk_lines > 65_536 {
             Some(Which::DeskLines)

@@ -1,6 +1,8 @@
 //! How far a part of a script has been read.
 
-ghost use Rattle.std.specs.Prelude.{◌≡◌, ◌+◌, ◌<◌, ◌≤◌, ◌^◌, ℕ, length, IfOk, OnOk, IsErrOf, IsTrue, IsFalse};
+ghost use Rattle.std.specs.Prelude.{◌≡◌, ◌+◌, ◌<◌, ◌≤◌, ◌^◌, ℕ, List, length, IfOk, OnOk, IsErrOf, IfSome, IfNone, IsTrue, IsFalse};
+ghost use Rattle.script_text.specs.declared.line.Line.TheVariants as lines;
+ghost use Rattle.script_text.specs.declared.place.Place.TheVariants.{Lane};
 ghost use Rattle.script_text.specs.declared.fault.Which.{Which};
 ghost use Rattle.script_text.specs.Order.{place_of as place_of_line};
 ghost use Rattle.script_text.specs.Limits.{IsSmall, counts_of};
@@ -9,11 +11,13 @@ ghost use Rattle.script_text.specs.Drafts.{Takes, second_of};
 
 use crate::fault::ScriptFault;
 use crate::fields::after;
-use crate::limits::{Counts, Tally};
+use crate::front::packet_at_front;
+use crate::hook_line::HookLine;
+use crate::limits::{Counts, MOST_HOOKS, Tally};
 use crate::line::Line;
 use crate::next::next_line;
 use crate::place::{Place, place_of};
-use acct_base::NameList;
+use acct_base::{ByteList, NameList};
 use std::alloc::Global;
 
 /// A cursor over the lines of a part.
@@ -69,6 +73,39 @@ impl<'a> Reader<'a> {
                 Ok(line)
             }
         }
+    }
+
+    /// Takes the next line, where it is a packet's in a lane. After a None the cursor stands where it stood, and
+    /// the next line may be any.
+    #[inline(always)]
+    pub fn next_packet(&mut self, alloc: Global) -> Option<HookLine<ByteList>>
+        requires small { IsSmall self.old.tally }
+        requires number { self.old.number + 1 < 2 ^ 64 }
+        ensures found { IfSome result (λ h. (names : List (List ℕ)) → Takes self.old.place names self.old.tally self.old.rest.now (lines.Hook h) self.new.tally self.new.rest.now) }
+        ensures place { IfSome result (λ h. self.new.place ≡ Lane) }
+        ensures number { IfSome result (λ h. self.new.number ≡ self.old.number + 1) }
+        ensures none { IfNone result (self.new ≡ self.old) }
+    {
+        if !matches!(self.place, Place::Lane) {
+            return None;
+        }
+        let (line, behind) = packet_at_front(alloc, self.rest)?;
+        let size = self.rest.len() - behind.len();
+        if self.tally.hooks >= MOST_HOOKS {
+            return None;
+        }
+        if self
+            .tally
+            .passed_by_bytes(size - 1, size, self.rest)
+            .is_some()
+        {
+            return None;
+        }
+        self.tally.bytes += size as u64;
+        self.tally.hooks += 1;
+        self.number += 1;
+        self.rest = behind;
+        Some(line)
     }
 
     /// What has been read of the script, up to the next line.

@@ -1,12 +1,15 @@
 //! A section of a script: its capture, its lanes and its desk.
 
-ghost use Rattle.std.specs.Prelude.{◌≡◌, ◌≤◌, ◌+◌, ℕ, IfOk, IsErrOf};
+ghost use Rattle.std.specs.Prelude.{◌≡◌, ◌≤◌, ◌+◌, ◌^◌, ℕ, List, [], length, IfOk, OnOk, IsErrOf};
 ghost use Rattle.script_text.specs.declared.fault.Which.{Which};
 ghost use Rattle.script_text.specs.declared.place.Place.TheVariants.{Next};
 ghost use Rattle.script_text.specs.Parts.{section_text};
 ghost use Rattle.script_text.specs.Limits.{counts_after, IsWithinLimits, tally_before};
 ghost use Rattle.script_text.specs.Faults.{BeginsSection, IsPart, FailsAt, SyntaxAt, LimitAt};
 ghost use Rattle.script_text.specs.Script.{IsNextSection};
+ghost use Rattle.script_text.specs.declared.limits.Tally.{Tally};
+ghost use Rattle.script_text.specs.Limits.{IsSmall};
+ghost use Rattle.script_text.specs.Drafts.{draft_lines, IsDraft, DraftAt, IsReadTo};
 
 use crate::draft::Draft;
 use crate::fault::ScriptFault;
@@ -16,7 +19,7 @@ use crate::place::Place;
 use crate::reader::Reader;
 use acct_base::{ByteList, List, NameList};
 use desk_core::Command;
-use std::alloc::Global;
+use std::alloc::{AllocError, Global};
 
 /// The lanes of a section, in order.
 pub type LaneLineList = List<HookLineList>;
@@ -84,8 +87,32 @@ pub fn parse_section(
             Err(fault) => return Err(fault),
             Ok(line) => draft.add(alloc, number, line)?,
         }
+        take_packets(alloc, &mut reader, &mut draft)?;
     }
     let counts = reader.counts();
     let section = draft.finish()?;
     Ok((section, counts))
+}
+
+/// Takes the lines of packets that come next, up to a line that is none.
+#[inline(never)]
+fn take_packets(alloc: Global, reader: &mut Reader<'_>, draft: &mut Draft) -> Result<(), AllocError>
+    requires small { IsSmall reader.old.tally }
+    requires draft { IsDraft draft.old }
+    requires at { DraftAt reader.old.place reader.old.number draft.old }
+    requires next { reader.old.number ≡ draft.old.first + length (draft_lines draft.old) }
+    requires room { reader.old.number ≤ reader.old.tally.bytes + 2 ^ 62 }
+    ensures draft { OnOk result (IsDraft draft.new) }
+    ensures first { OnOk result (draft.new.first ≡ draft.old.first) }
+    ensures at { OnOk result (DraftAt reader.new.place reader.new.number draft.new) }
+    ensures no_longer { OnOk result (length reader.new.rest.now ≤ length reader.old.rest.now) }
+    ensures read { OnOk result ((t : Tally) (first : ℕ) (bytes : List ℕ) → IsReadTo Next t first bytes (draft_lines draft.old) [] reader.old →
+        IsReadTo Next t first bytes (draft_lines draft.new) [] reader.new) }
+{
+    let mut number = reader.number;
+    while let Some(hook) = reader.next_packet(alloc) {
+        draft.add_hook(number, hook)?;
+        number = reader.number;
+    }
+    Ok(())
 }

@@ -1,3 +1,6 @@
+mod lines;
+mod whole;
+
 use super::*;
 use crate::fields::after;
 use acct_base::ByteList;

@@ -3,7 +3,6 @@
 ghost use Rattle.std.specs.Prelude.{◌≡◌, ◌≢◌, ℕ, List, IfOk, IfErr, OnErr, IsErrOf, if◌then◌else◌, IsTrue, IsFalse};
 ghost use Rattle.std.specs.List.{list_all};
 ghost use Rattle.hex.specs.Hex.{encode_lower};
-ghost use Rattle.hex.specs.declared.error.FromHexError.TheVariants.{OutOfMemory};
 ghost use Rattle.acct_base.specs.declared.packet.Family.{Family};
 ghost use Rattle.desk_core.specs.declared.command.Chain.{Chain};
 ghost use Rattle.desk_core.specs.declared.command.Bit.{Bit};
@@ -11,10 +10,10 @@ ghost use Rattle.script_text.specs.declared.map_name.MapName.{MapName};
 ghost use Rattle.script_text.specs.Lines.{family_word, chain_word, bit_word, map_word, head_word, is_name, is_letter, is_name_byte, IsHex, IsHead};
 
 use crate::fault::LineFault;
+use crate::hex_digits::read_digits;
 use crate::map_name::MapName;
 use acct_base::{ByteList, Family};
 use desk_core::{Bit, Chain};
-use hex::FromHexError;
 use std::alloc::Global;
 
 const DOZABLE: &[u8] = b"dozable";
@@ -198,40 +197,27 @@ pub fn is_same(text: &[u8], other: &[u8]) -> bool
     text == other
 }
 
-// What the fault of a decoder makes of a line.
-fn fault_of(fault: &FromHexError) -> LineFault
-    ensures { result ≡ LineFault.Syntax → fault.now ≢ OutOfMemory }
-{
-    match fault {
-        FromHexError::OutOfMemory => LineFault::Memory,
-        FromHexError::InvalidHexCharacter { .. } => LineFault::Syntax,
-        FromHexError::OddLength => LineFault::Syntax,
-        FromHexError::InvalidStringLength => LineFault::Syntax,
-    }
-}
-
 /// The bytes, from one to `most`, that a field writes in lower-case digits, two for each.
 pub fn hex_of(alloc: Global, field: &[u8], most: usize) -> Result<ByteList, LineFault>
     ensures found { IfOk result (λ bytes. IsHex most bytes × (field.now ≡ encode_lower bytes)) }
     ensures syntax { IsErrOf result LineFault.Syntax → (bytes : List ℕ) → IsHex most bytes →
         field.now ≢ encode_lower bytes }
 {
-    match hex::decode(alloc, field) {
-        Err(fault) => Err(fault_of(&fault)),
-        Ok(bytes) => {
-            if bytes.is_empty() {
-                return Err(LineFault::Syntax);
-            }
-            if bytes.len() > most {
-                return Err(LineFault::Syntax);
-            }
-            let text = hex::encode(alloc, bytes.as_slice())?;
-            if is_same(text.as_bytes(), field) {
-                return Ok(ByteList::from_vec(bytes));
-            }
-            Err(LineFault::Syntax)
-        }
+    let size = field.len() / 2;
+    if size == 0 {
+        return Err(LineFault::Syntax);
     }
+    if size > most {
+        return Err(LineFault::Syntax);
+    }
+    if field.len() % 2 != 0 {
+        return Err(LineFault::Syntax);
+    }
+    let mut bytes = vec![in alloc; 0u8; size]?;
+    if read_digits(field, bytes.as_mut_slice()) {
+        return Ok(ByteList::from_vec(bytes));
+    }
+    Err(LineFault::Syntax)
 }
 
 /// The first bytes of a packet, 128 and `len` of them at most, that a field tells.

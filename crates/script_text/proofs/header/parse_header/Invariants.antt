@@ -3,7 +3,7 @@ use Rattle.script_text.specs.declared.place.Place.TheVariants.{Start}
 use Rattle.script_text.specs.Parts.{header_lines, default_sizes, with_sizes}
 use Rattle.script_text.specs.Limits.{no_tally}
 use Rattle.script_text.specs.Drafts.{HeaderAt, second_of}
-use Rattle.script_text.proofs.Orders.{IsReadTo}
+use Rattle.script_text.specs.Drafts.{IsReadTo}
 use Rattle.script_text.proofs.header.parse_header.Given as goal
 
 abbrev pub invariant-loop-alloc : goal.invariant-loop-alloc

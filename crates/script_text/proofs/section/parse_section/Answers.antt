@@ -1,24 +1,19 @@
-use Rattle.std.proofs.Common.{◌≡◌, ℕ, ◌+◌, [], ◌∷◌, ◌++◌, List, length, refl, sym, ap, subst, ◌∙◌, arith}
+use Rattle.std.proofs.Common.{ℕ, ◌+◌, ◌<◌, [], ◌∷◌, ◌++◌, List, length, length-append, refl, sym, ap, subst, ◌∙◌, arith}
 use Rattle.std.proofs.lemmas.List.{append-nil}
-use Rattle.script_text.specs.declared.place.Place.{Place}
 use Rattle.script_text.specs.declared.place.Place.TheVariants.{Next}
 use Rattle.std.specs.List.{AllByRecursion}
 use Rattle.script_text.specs.declared.line.Line.{Line}
 use Rattle.script_text.specs.declared.line.Line.TheVariants as lines
-use Rattle.script_text.specs.declared.draft.Draft.{Draft}
 use Rattle.script_text.specs.declared.reader.Reader.{Reader}
 use Rattle.script_text.specs.Lines.{IsLine}
 use Rattle.script_text.specs.Parts.{lines_text}
 use Rattle.script_text.specs.Order.{names_in, place_of, InOrder}
 use Rattle.script_text.specs.Limits.{tally_before, counts_of, tallied, KeepLimits}
 use Rattle.script_text.specs.Faults.{SyntaxAt, LimitAt}
-use Rattle.script_text.specs.Drafts.{draft_lines, DraftAt, second_of}
-use Rattle.script_text.proofs.Takings.{draft_takes, no_names, first_is_section}
-use Rattle.script_text.proofs.Orders.{number_small, read_on, fails_next, counts_read, with_names, without_names, none_read, small_before}
+use Rattle.script_text.specs.Drafts.{draft_lines, second_of}
+use Rattle.script_text.proofs.Takings.{at_same, draft_takes, no_names, first_is_section}
+use Rattle.script_text.proofs.Orders.{shorter, number_small, read_on, fails_next, counts_read, with_names, without_names, none_read, small_before}
 use Rattle.script_text.proofs.section.parse_section.Goals as goal
-
-at_same : (p q : Place) (n m : ℕ) (d : Draft) → p ≡ q → n ≡ m → DraftAt q m d → DraftAt p n d
-at_same p q n m d e f at = subst (λ (r : Place). DraftAt r n d) (sym e) (subst (λ (k : ℕ). DraftAt q k d) (sym f) at)
 
 pub returns-in-Err-clause-limit : goal.returns-in-Err-clause-limit
 returns-in-Err-clause-limit c = λ w line is.
@@ -77,21 +72,51 @@ pub add-requires-clause-room : goal.add-requires-clause-room
 add-requires-clause-room c =
     omega (arith, c.requires.lines, c.requires.limits.bytes, number_small Next (tally_before c.args.before.now) (c.args.before.now.lines + 1) c.args.bytes.now (draft_lines c.loop-alloc.draft) [] c.loop-alloc.reader c.loop-alloc.invariant.read)
 
+pub take_packets-requires-clause-small : goal.take_packets-requires-clause-small
+take_packets-requires-clause-small c = c.in-Ok-next_line.ensures.found.small
+
+pub take_packets-requires-clause-draft : goal.take_packets-requires-clause-draft
+take_packets-requires-clause-draft c = c.in_ok-add-in-Ok-next_line.ensures.draft
+
+pub take_packets-requires-clause-at : goal.take_packets-requires-clause-at
+take_packets-requires-clause-at c =
+    let e = c.in-Ok-next_line.ensures in
+    at_same c.next_line-in-loop-alloc.new.self.place (place_of c.in-Ok-next_line.line) c.next_line-in-loop-alloc.new.self.number (c.loop-alloc.reader.number + 1) c.add.new.self e.place e.number c.in_ok-add-in-Ok-next_line.ensures.at
+
+pub take_packets-requires-clause-next : goal.take_packets-requires-clause-next
+take_packets-requires-clause-next c =
+    let e = c.in-Ok-next_line.ensures in
+    let a = c.in_ok-add-in-Ok-next_line.ensures in
+    let one = ap length a.lines ∙ length-append (draft_lines c.loop-alloc.draft) (c.in-Ok-next_line.line ∷ []) in
+    omega (arith, e.number, c.loop-alloc.invariant.read.number, c.loop-alloc.invariant.first, a.first, one)
+
+pub take_packets-requires-clause-room : goal.take_packets-requires-clause-room
+take_packets-requires-clause-room c =
+    omega (arith, c.in-Ok-next_line.ensures.number, c.requires.lines, c.requires.limits.bytes, number_small Next (tally_before c.args.before.now) (c.args.before.now.lines + 1) c.args.bytes.now (draft_lines c.loop-alloc.draft) [] c.loop-alloc.reader c.loop-alloc.invariant.read)
+
 pub loop-alloc-preserved : goal.loop-alloc-preserved
 loop-alloc-preserved c =
     let e = c.in-Ok-next_line.ensures in
     let a = c.in_ok-add-in-Ok-next_line.ensures in
+    let t = c.in_ok-take_packets.ensures in
     let takes = draft_takes c.loop-alloc.reader.place c.loop-alloc.reader.number c.loop-alloc.draft c.in-Ok-next_line.line c.loop-alloc.invariant.at e.found.next.stands.follows_is in
     let read = with_names Next (tally_before c.args.before.now) (c.args.before.now.lines + 1) c.args.bytes.now (draft_lines c.loop-alloc.draft) c.new-names.result c.loop-alloc.reader c.new-names.ensures c.loop-alloc.invariant.read in
     let named = sym (append-nil (second_of c.new-names.result)) ∙ ap (λ (ns : List (List ℕ)). second_of c.new-names.result ++ ns) (sym (no_names c.loop-alloc.reader.number c.loop-alloc.draft c.in-Ok-next_line.line takes)) in
     record {
-      read = without_names Next (tally_before c.args.before.now) (c.args.before.now.lines + 1) c.args.bytes.now (draft_lines c.add.new.self) c.new-names.result c.next_line-in-loop-alloc.new.self c.new-names.ensures (
+      read = t.read (tally_before c.args.before.now) (c.args.before.now.lines + 1) c.args.bytes.now (
+          without_names Next (tally_before c.args.before.now) (c.args.before.now.lines + 1) c.args.bytes.now (draft_lines c.add.new.self) c.new-names.result c.next_line-in-loop-alloc.new.self c.new-names.ensures (
           read_on Next (tally_before c.args.before.now) (c.args.before.now.lines + 1) c.args.bytes.now (draft_lines c.loop-alloc.draft) (draft_lines c.add.new.self) (second_of c.new-names.result) (second_of c.new-names.result) c.loop-alloc.reader c.next_line-in-loop-alloc.new.self c.in-Ok-next_line.line read e.found e.place e.number a.lines named
-          );
-      draft = a.draft;
-      first = a.first ∙ c.loop-alloc.invariant.first;
-      at = at_same c.next_line-in-loop-alloc.new.self.place (place_of c.in-Ok-next_line.line) c.next_line-in-loop-alloc.new.self.number (c.loop-alloc.reader.number + 1) c.add.new.self e.place e.number a.at;
+          ));
+      draft = t.draft;
+      first = t.first ∙ a.first ∙ c.loop-alloc.invariant.first;
+      at = t.at;
     }
+
+pub loop-alloc-smaller : goal.loop-alloc-smaller
+loop-alloc-smaller c =
+    let less : length c.take_packets.new.reader.rest.now < length c.loop-alloc.reader.rest.now =
+    omega (arith, c.in_ok-take_packets.ensures.no_longer, shorter c.in-Ok-next_line.line c.loop-alloc.reader.rest.now c.next_line-in-loop-alloc.new.self.rest.now c.in-Ok-next_line.ensures.found.next.text) in
+    less
 
 pub counts-counts-requires : goal.counts-counts-requires
 counts-counts-requires c = omega (arith, c.loop-alloc.invariant.read.number)

@@ -2,7 +2,7 @@ use Rattle.std.proofs.Common.{◌≡◌, ◌+◌, [], length}
 use Rattle.script_text.specs.declared.place.Place.TheVariants.{Next}
 use Rattle.script_text.specs.Limits.{tally_before}
 use Rattle.script_text.specs.Drafts.{draft_lines, IsDraft, DraftAt}
-use Rattle.script_text.proofs.Orders.{IsReadTo}
+use Rattle.script_text.specs.Drafts.{IsReadTo}
 use Rattle.script_text.proofs.section.parse_section.Given as goal
 
 abbrev pub invariant-loop-alloc : goal.invariant-loop-alloc
