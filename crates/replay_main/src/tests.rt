@@ -107,7 +107,8 @@ fn replay_in_pieces(
     failing_read: u64,
     failing_write: u64,
 ) -> Result<(Outcome, MemSink), AllocError> {
-    let mut source = MemSource::new(alloc, script, piece, &[failing_read])?;
+    // A source gives a byte at a time at least.
+    let mut source = MemSource::new(alloc, script, piece.max(1), &[failing_read])?;
     let mut sink = MemSink::new(alloc, 4_096, 16, &[failing_write])?;
     let outcome = run(alloc, &words(alloc, &["replay"])?, &mut source, &mut sink);
     Ok((outcome, sink))
