@@ -36,7 +36,8 @@ impl Model for Book {
 
 impl Book {
     ghost use Rattle.desk_core.specs.Book.{IsDecisionOf};
-    ghost use Rattle.acct_base.specs.Registers.{KeepsLimits};
+    ghost use Rattle.acct_base.specs.Registers.{KeepsLimits, IsWellFormed};
+    ghost use Rattle.std.specs.List.{AllByRecursion};
 
     /// A book without writes, with these limits on the distinct keys of each map and on writes. Besides root
     /// and the system the apps of these ids are privileged: they ascend, and are below 100,000.
@@ -83,6 +84,9 @@ impl Book {
         requires { IsDecisionOf self.old decision.now }
         ensures ok { OnOk result (self.new ≡ record self.old { journal = self.old.journal ++ decision.now.writes }) }
         ensures err { OnErr result (self.new ≡ self.old) }
+        // Registers with the book's limits have room for its journal, and take each of its writes.
+        ensures within { KeepsLimits self.new.limits self.new.journal }
+        ensures formed { AllByRecursion IsWellFormed self.new.journal }
     {
         let writes = decision.writes.as_slice();
         self.latest.make_rooms(writes)?;
