@@ -75,20 +75,18 @@ impl<'a> Reader<'a> {
         }
     }
 
-    /// Takes the next line, where it is a packet's in a lane. After a None the cursor stands where it stood, and
-    /// the next line may be any.
+    /// Takes the next line of a lane, where it is a packet's. After a None the cursor stands where it stood, and the
+    /// next line may be any.
     #[inline(always)]
     pub fn next_packet(&mut self, alloc: Global) -> Option<HookLine<ByteList>>
+        requires lane { self.old.place ≡ Lane }
         requires small { IsSmall self.old.tally }
         requires number { self.old.number + 1 < 2 ^ 64 }
         ensures found { IfSome result (λ h. (names : List (List ℕ)) → Takes self.old.place names self.old.tally self.old.rest.now (lines.Hook h) self.new.tally self.new.rest.now) }
-        ensures place { IfSome result (λ h. self.new.place ≡ Lane) }
+        ensures place { self.new.place ≡ Lane }
         ensures number { IfSome result (λ h. self.new.number ≡ self.old.number + 1) }
         ensures none { IfNone result (self.new ≡ self.old) }
     {
-        if !matches!(self.place, Place::Lane) {
-            return None;
-        }
         let (line, behind) = packet_at_front(alloc, self.rest)?;
         let size = self.rest.len() - behind.len();
         if self.tally.hooks >= MOST_HOOKS {

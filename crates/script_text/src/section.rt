@@ -94,7 +94,7 @@ pub fn parse_section(
     Ok((section, counts))
 }
 
-/// Takes the lines of packets that come next, up to a line that is none.
+/// Takes the lines of packets that come next in a lane, up to a line that is none.
 #[inline(never)]
 fn take_packets(alloc: Global, reader: &mut Reader<'_>, draft: &mut Draft) -> Result<(), AllocError>
     requires small { IsSmall reader.old.tally }
@@ -109,6 +109,9 @@ fn take_packets(alloc: Global, reader: &mut Reader<'_>, draft: &mut Draft) -> Re
     ensures read { OnOk result ((t : Tally) (first : ℕ) (bytes : List ℕ) → IsReadTo Next t first bytes (draft_lines draft.old) [] reader.old →
         IsReadTo Next t first bytes (draft_lines draft.new) [] reader.new) }
 {
+    if !matches!(reader.place, Place::Lane) {
+        return Ok(());
+    }
     let mut number = reader.number;
     while let Some(hook) = reader.next_packet(alloc) {
         draft.add_hook(number, hook)?;

@@ -37,6 +37,7 @@ loop-hook-preserved c =
     let size = ap length (e.found []).next.text ∙ length-append (spelled (lines.Hook c.in-Some.hook)) c.next_packet.new.self.rest.now in
     let one = ap length a.lines ∙ length-append (draft_lines c.loop-hook.draft) (lines.Hook c.in-Some.hook ∷ []) in
     record {
+      lane = e.place;
       small = (e.found []).small;
       draft = a.draft;
       first = a.first ∙ inv.first;
@@ -51,4 +52,4 @@ loop-hook-preserved c =
 
 pub returns-clause-read : goal.returns-clause-read
 returns-clause-read c = λ t first bytes was.
-    subst (λ (r : Reader). IsReadTo Next t first bytes (draft_lines c.loop-hook.draft) [] r) (sym c.in_default.ensures.none) (c.loop-hook.invariant.read t first bytes was)
+    subst (λ (r : Reader). IsReadTo Next t first bytes (draft_lines c.loop-hook.draft) [] r) (sym c.in_default-next_packet.ensures.none) (c.loop-hook.invariant.read t first bytes was)

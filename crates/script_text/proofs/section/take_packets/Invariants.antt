@@ -1,5 +1,5 @@
 use Rattle.std.proofs.Common.{◌≡◌, ◌+◌, ◌^◌, ◌≤◌, ℕ, List, [], length}
-use Rattle.script_text.specs.declared.place.Place.TheVariants.{Next}
+use Rattle.script_text.specs.declared.place.Place.TheVariants.{Next, Lane}
 use Rattle.script_text.specs.declared.limits.Tally.{Tally}
 use Rattle.script_text.specs.Limits.{IsSmall}
 use Rattle.script_text.specs.Drafts.{draft_lines, IsDraft, DraftAt, IsReadTo}
@@ -7,6 +7,7 @@ use Rattle.script_text.proofs.section.take_packets.Given as goal
 
 abbrev pub invariant-loop-hook : goal.invariant-loop-hook
 invariant-loop-hook l = record {
+  lane : l.reader.place ≡ Lane;
   small : IsSmall l.reader.tally;
   draft : IsDraft l.draft;
   first : l.draft.first ≡ l.fn.draft.first;
