@@ -1,13 +1,22 @@
 -- The tally of receipts, part by part.
-use Rattle.std.proofs.Common.{◌≡◌, ℕ, ◌+◌, ◌<◌, List, [], ◌∷◌, ◌++◌, length, get_or, take, refl, sym, ap, ◌∙◌}
-use Rattle.std.specs.List.{flat_map}
+use Rattle.std.proofs.Common.{◌≡◌, ℕ, zero, suc, ◌+◌, ◌<◌, Option, Some, None, List, [], ◌∷◌, ◌++◌, length, get_or, take, refl, sym, ap, ◌∙◌}
+use Rattle.std.specs.List.{flat_map, slice_get}
+use Rattle.std.specs.Prelude.{option_map, unwrap_or}
+use Rattle.std.proofs.lemmas.Option.{none-some}
 use Rattle.std.proofs.lemmas.Grind.{flat_map-append}
 use Rattle.std.proofs.lemmas.List.{append-nil, take_more, length-append}
 use Rattle.std.proofs.lemmas.List.Sums.{sum_by-append, sum_by_push}
 use Rattle.acct_base.specs.declared.receipt.LineReceipt.{LineReceipt}
+use Rattle.acct_base.specs.declared.receipt.LineReceipt.TheVariants as line
+use Rattle.acct_base.specs.declared.receipt.Mark.{Mark}
+use Rattle.acct_base.specs.declared.receipt.Mark.TheVariants.{Landed, Full}
+use Rattle.acct_base.specs.declared.verdict.Verdict.{Verdict}
+use Rattle.acct_base.specs.declared.verdict.Verdict.TheVariants.{Pass, Drop}
+use Rattle.shelf.specs.declared.marks.LineMarks.{LineMarks}
+use Rattle.shelf.specs.Marks.{marks_of}
 use Rattle.dump_text.specs.declared.tally.Tally.{Tally}
-use Rattle.dump_text.specs.Dump.{passed, dropped, full_marks}
-use Rattle.dump_text.specs.Tallied.{tally, line_tally, added}
+use Rattle.dump_text.specs.Dump.{passed, dropped, full_mark, full_marks}
+use Rattle.dump_text.specs.Tallied.{tally, line_tally, verdict_passed, verdict_dropped, marks_tally, added}
 
 abbrev tally_with : ℕ → ℕ → ℕ → ℕ → Tally
 tally_with a b c d = record { calls = a; passed = b; dropped = c; full = d }
@@ -26,6 +35,28 @@ tally-push xs x = same_tally _ _ _ _ _ _ _ _ (length-append xs (x ∷ []))
     (sum_by_push (λ (r : ℕ × LineReceipt). passed r.1) xs x)
     (sum_by_push (λ (r : ℕ × LineReceipt). dropped r.1) xs x)
     (sum_by_push (λ (r : ℕ × LineReceipt). full_marks r.1) xs x)
+
+-- a receipt's marks tell all that it counts for
+plain_alone : (mark : Option Mark) → 0 + full_mark mark + 0 ≡ full_mark mark
+plain_alone None = refl
+plain_alone (Some Landed) = refl
+plain_alone (Some Full) = refl
+
+pub tally_of_marks : (r : LineReceipt) → marks_tally (marks_of r) ≡ line_tally r
+tally_of_marks (line.Hook r) = by_verdict r.verdict
+  where
+    by_verdict : (v : Verdict) → tally_with 1 (verdict_passed (Some v)) (verdict_dropped (Some v)) (full_marks (line.Hook r))
+        ≡ tally_with 1 (passed (line.Hook (record r { verdict = v }))) (dropped (line.Hook (record r { verdict = v }))) (full_marks (line.Hook r))
+    by_verdict Pass = refl
+    by_verdict Drop = refl
+tally_of_marks (line.Iface r) = ap (λ n. tally_with 1 0 0 n) (plain_alone r.landed)
+tally_of_marks (line.List r) = refl
+
+-- the marks of a receipt at a place, and the receipt
+pub tally_at : (rs : List (ℕ × LineReceipt)) (i : ℕ) (m : LineMarks) → Some m ≡ option_map (λ (r : ℕ × LineReceipt). marks_of r.1) (slice_get rs i) → (d : ℕ × LineReceipt) → marks_tally m ≡ line_tally (get_or rs i d).1
+tally_at [] i m is d = absurd (none-some m (sym is))
+tally_at (r ∷ rs) zero m is d = ap (λ (o : Option LineMarks). marks_tally (unwrap_or o m)) is ∙ tally_of_marks r.1
+tally_at (r ∷ rs) (suc i) m is d = tally_at rs i m is d
 
 -- one more of a lane's receipts
 pub tally_one_more : (xs : List (ℕ × LineReceipt)) (i : ℕ) (d : ℕ × LineReceipt) (sum new : Tally) → i < length xs → sum ≡ tally (take i xs)

@@ -1,13 +1,37 @@
 -- The four counts of receipts as one record, which the code adds up.
-use Rattle.std.specs.Prelude.{ℕ, ◌+◌, List, [], ◌∷◌, length, codes, decimal, sum_by}
+use Rattle.std.specs.Prelude.{ℕ, ◌+◌, Option, Some, None, List, [], ◌∷◌, length, codes, decimal, sum_by}
 use Rattle.acct_base.specs.declared.receipt.LineReceipt.{LineReceipt}
+use Rattle.acct_base.specs.declared.verdict.Verdict.{Verdict}
+use Rattle.acct_base.specs.declared.verdict.Verdict.TheVariants.{Pass, Drop}
 use Rattle.acct_base.specs.Text.{line_text}
+use Rattle.shelf.specs.declared.marks.LineMarks.{LineMarks}
 use Rattle.dump_text.specs.declared.tally.Tally.{Tally}
-use Rattle.dump_text.specs.Dump.{passed, dropped, full_marks}
+use Rattle.dump_text.specs.Dump.{passed, dropped, full_mark, full_marks}
 
 -- What one receipt counts for.
 abbrev pub line_tally : LineReceipt → Tally
 line_tally r = record { calls = 1; passed = passed r; dropped = dropped r; full = full_marks r }
+
+-- A verdict passed the packet.
+abbrev pub verdict_passed : Option Verdict → ℕ
+verdict_passed (Some Pass) = 1
+verdict_passed (Some Drop) = 0
+verdict_passed None = 0
+
+-- A verdict dropped the packet.
+abbrev pub verdict_dropped : Option Verdict → ℕ
+verdict_dropped (Some Pass) = 0
+verdict_dropped (Some Drop) = 1
+verdict_dropped None = 0
+
+-- What a receipt counts for, by its verdict and marks alone.
+abbrev pub marks_tally : LineMarks → Tally
+marks_tally m = record {
+  calls = 1;
+  passed = verdict_passed m.verdict;
+  dropped = verdict_dropped m.verdict;
+  full = full_mark m.tag + full_mark m.plain + full_mark m.app;
+}
 
 -- The counts of receipts.
 abbrev pub tally : List (ℕ × LineReceipt) → Tally

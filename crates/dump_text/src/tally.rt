@@ -3,10 +3,10 @@
 ghost use Rattle.std.specs.Prelude.{◌≡◌, ◌≤◌, ◌++◌, ◌<◌, ◌^◌, IfOk};
 ghost use Rattle.std.specs.List.{flat_map};
 ghost use Rattle.dump_text.specs.Dump.{full_mark, receipts_of, section_receipts};
-ghost use Rattle.dump_text.specs.Tallied.{line_tally, tally, added};
+ghost use Rattle.dump_text.specs.Tallied.{marks_tally, tally, added};
 
-use acct_base::{LineReceipt, Mark, Receipt, Verdict};
-use shelf::{ReceiptList, Report, SectionOut};
+use acct_base::{Mark, Verdict};
+use shelf::{LineMarks, ReceiptList, Report, SectionOut};
 use std::alloc::AllocError;
 
 /// How many receipts there are, how many of them passed a packet and how many dropped one, and how many
@@ -26,6 +26,7 @@ const NONE: Tally = Tally {
     full: 0,
 };
 
+#[inline(always)]
 fn full_mark(mark: Option<Mark>) -> u64
     ensures value { result ≡ full_mark mark }
     ensures at_most_one { result ≤ 1 }
@@ -36,43 +37,27 @@ fn full_mark(mark: Option<Mark>) -> u64
     }
 }
 
-fn hook_tally(receipt: &Receipt) -> Tally
-    ensures { result ≡ line_tally (LineReceipt.Hook receipt.now) }
+// What a receipt with these marks counts for.
+#[inline(always)]
+fn marks_tally(marks: &LineMarks) -> Tally
+    ensures { result ≡ marks_tally marks.now }
 {
-    let full = full_mark(receipt.landed_tag)
-        + full_mark(receipt.landed_plain)
-        + full_mark(receipt.landed_app);
-    match receipt.verdict {
-        Verdict::Pass => Tally {
-            calls: 1,
-            passed: 1,
-            dropped: 0,
-            full,
-        },
-        Verdict::Drop => Tally {
-            calls: 1,
-            passed: 0,
-            dropped: 1,
-            full,
-        },
-    }
-}
-
-fn line_tally(receipt: &LineReceipt) -> Tally
-    ensures { result ≡ line_tally receipt.now }
-{
-    match receipt {
-        LineReceipt::Hook(receipt) => hook_tally(receipt),
-        LineReceipt::Iface(receipt) => Tally {
-            calls: 1,
-            full: full_mark(receipt.landed),
-            ..NONE
-        },
-        LineReceipt::List(_) => Tally { calls: 1, ..NONE },
+    let (passed, dropped) = match marks.verdict {
+        Some(Verdict::Pass) => (1, 0),
+        Some(Verdict::Drop) => (0, 1),
+        None => (0, 0),
+    };
+    let full = full_mark(marks.tag) + full_mark(marks.plain) + full_mark(marks.app);
+    Tally {
+        calls: 1,
+        passed,
+        dropped,
+        full,
     }
 }
 
 // Both together. Where a sum passes its word, memory for the receipts has long run out.
+#[inline(always)]
 fn sum_of(a: Tally, b: Tally) -> Result<Tally, AllocError>
     ensures { IfOk result (λ t. t ≡ added a b) }
 {
@@ -89,9 +74,9 @@ fn lane_tally(lane: &ReceiptList) -> Result<Tally, AllocError>
 {
     let mut sum = NONE;
     for place in 0..lane.len() {
-        match lane.get(place) {
+        match lane.marks(place) {
             None => return Ok(sum),
-            Some((_, receipt)) => sum = sum_of(sum, line_tally(&receipt))?,
+            Some(marks) => sum = sum_of(sum, marks_tally(&marks))?,
         }
     }
     Ok(sum)

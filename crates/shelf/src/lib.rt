@@ -5,14 +5,19 @@
 #![tactic(auto)]
 
 mod kept;
+mod marks;
 mod merge;
 mod receipts;
 mod report;
+mod room;
+mod roomy;
 mod shelf;
 mod sum;
 
+pub use marks::LineMarks;
 pub use receipts::ReceiptList;
 pub use report::{LaneList, ReplyList, Report, SectionList, SectionOut};
+pub use room::ReceiptRoom;
 pub use shelf::{Deletion, Shelf};
 
 #[cfg(test)]

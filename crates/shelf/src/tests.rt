@@ -2,7 +2,8 @@ ghost use Rattle.std.specs.Prelude.{◌≡◌, IfOk};
 
 use super::*;
 use acct_base::{
-    Amount, Label, LineReceipt, List, ListReceipt, Receipt, Row, Seen, Snapshot, Verdict,
+    Amount, IfaceReceipt, Label, LineReceipt, List, ListReceipt, Mark, Receipt, Row, Seen,
+    Snapshot, Verdict,
 };
 use std::alloc::{AllocError, Global};
 
@@ -110,5 +111,31 @@ fn receipts_are_kept_whole(rt: HostRuntime) -> Result<(), AllocError> {
     assert_eq!(rt; lane.get(0), Some((9, tagged)));
     assert_eq!(rt; lane.get(1), Some((10, list)));
     assert_eq!(rt; lane.get(2), None);
+    Ok(())
+}
+
+// Takes what may go to another thread, and nothing else.
+fn goes_to_threads<T: Send>(_value: &T) {}
+
+#[test]
+fn a_room_ends_as_a_list(rt: HostRuntime) -> Result<(), AllocError> {
+    let receipt = LineReceipt::Iface(IfaceReceipt {
+        matched: true,
+        landed: Some(Mark::Full),
+    });
+    let mut room = ReceiptRoom::new(rt.alloc(), 1)?;
+    goes_to_threads(&room);
+    room.push((9, receipt));
+    let mut lane = room.into_list();
+    lane.push((10, receipt))?;
+    assert_eq!(rt; lane.get(0), Some((9, receipt)));
+    assert_eq!(rt; lane.get(1), Some((10, receipt)));
+    let marks = LineMarks {
+        verdict: None,
+        tag: None,
+        plain: Some(Mark::Full),
+        app: None,
+    };
+    assert_eq!(rt; lane.marks(1), Some(marks));
     Ok(())
 }
