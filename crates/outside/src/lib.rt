@@ -8,6 +8,8 @@
 #![tactic(auto)]
 
 mod arguments;
+mod gate;
+mod generated;
 mod memory;
 mod sink;
 mod source;
@@ -15,6 +17,8 @@ mod standard;
 mod whole;
 
 pub use arguments::ArgList;
+pub use gate::{Gate, NoGate};
+pub use generated::GenSource;
 pub use memory::{MemSink, MemSource};
 pub use sink::Sink;
 pub use source::{Failed, Source};
