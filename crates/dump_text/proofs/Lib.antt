@@ -1,3 +1,4 @@
 pub mod PageLemmas
 pub mod TallyLemmas
+pub mod SeenLemmas
 pub mod TotalLemmas

@@ -1,4 +1,4 @@
-ghost use Rattle.std.specs.Prelude.{◌≡◌, ◌+◌, ◌++◌, ◌≤◌, [], length, IfOk};
+ghost use Rattle.std.specs.Prelude.{◌≡◌, ◌+◌, ◌∷◌, ◌++◌, ◌<◌, ◌≤◌, [], length, IfOk};
 
 use std::alloc::{AllocError, Global};
 use std::marker::Model;
@@ -11,16 +11,17 @@ const ROOM: usize = 4096;
 #[derive(Debug, Drop)]
 pub struct LineBuffer {
     bytes: Vec<u8>,
+    len: usize,
 }
 
 impl Model for LineBuffer {
-    ghost use Rattle.std.specs.Prelude.{List, ℕ, length, ◌≤◌, vec_capacity};
+    ghost use Rattle.std.specs.Prelude.{◌≡◌, List, ℕ, length, take, ◌≤◌};
 
     ghost Value = { List ℕ };
 
-    ghost view = { λ b. b.bytes.items };
+    ghost view = { λ b. take b.len b.bytes.items };
 
-    ghost invariant = { λ b. (length b.bytes.items ≤ 4096) × (4096 ≤ vec_capacity b.bytes) };
+    ghost invariant = { λ b. (length b.bytes.items ≡ 4096) × (b.len ≤ 4096) };
 }
 
 impl LineBuffer {
@@ -29,36 +30,51 @@ impl LineBuffer {
         ensures { IfOk result (λ b. b ≡ []) }
     {
         Ok(LineBuffer {
-            bytes: Vec::with_capacity(alloc, ROOM)?,
+            bytes: vec![in alloc; 0; ROOM]?,
+            len: 0,
         })
     }
 
     /// For how many bytes more there is room.
+    #[inline(always)]
     pub fn room(&self) -> usize
         ensures { result + length self.now ≡ 4096 }
     {
-        ROOM - self.bytes.len()
+        ROOM - self.len
     }
 
     /// Puts bytes behind those that wait, in the room that there is.
+    #[inline(always)]
     pub fn push(&mut self, bytes: &[u8])
         requires room { length self.old + length bytes.now ≤ 4096 }
         ensures { self.new ≡ self.old ++ bytes.now }
     {
-        self.bytes.extend_from_slice(bytes).unwrap();
+        let end = self.len + bytes.len();
+        self.bytes[self.len..end].copy_from_slice(bytes);
+        self.len = end;
+    }
+
+    /// Puts a byte behind those that wait, in the room that there is.
+    #[inline(always)]
+    pub fn push_byte(&mut self, byte: u8)
+        requires room { length self.old < 4096 }
+        ensures { self.new ≡ self.old ++ byte ∷ [] }
+    {
+        self.bytes[self.len] = byte;
+        self.len += 1;
     }
 
     /// The bytes that wait.
     pub fn waiting(&self) -> &[u8]
         ensures { result.now ≡ self.now }
     {
-        self.bytes.as_slice()
+        &self.bytes[..self.len]
     }
 
     /// Drops the bytes that wait.
     pub fn clear(&mut self)
         ensures { self.new ≡ [] }
     {
-        self.bytes.clear();
+        self.len = 0;
     }
 }

@@ -1,6 +1,6 @@
 //! Text that goes to a sink through a small buffer.
 
-ghost use Rattle.std.specs.Prelude.{◌≡◌, ◌∷◌, ◌++◌, [], codes, true, false, OnOk, OnErr};
+ghost use Rattle.std.specs.Prelude.{◌≡◌, ◌∷◌, ◌++◌, [], codes, decimal, true, false, OnOk, OnErr};
 ghost use Rattle.std.specs.Io.KnownBytes.{Appends};
 ghost use Rattle.outside.specs.Outside.{Rose, AppendsPrefix};
 ghost use Rattle.dump_text.specs.Pages.{Puts, Sends, IsFresh};
@@ -55,16 +55,38 @@ impl<'a, K: Sink> Page<'a, K> {
         }
     }
 
+    // Puts bytes for which the buffer may have too little room left.
+    #[cold]
+    #[inline(never)]
+    fn put_later(&mut self, bytes: &[u8])
+        ensures { Puts K.written K.faults self.old self.new bytes.now }
+    {
+        self.flush();
+        self.put_alone(bytes);
+    }
+
     /// Puts some bytes.
+    #[inline(always)]
     pub fn put(&mut self, bytes: &[u8])
         ensures { Puts K.written K.faults self.old self.new bytes.now }
     {
         if bytes.len() <= self.buffer.room() {
             self.buffer.push(bytes);
-            return;
+        } else {
+            self.put_later(bytes);
         }
-        self.flush();
-        self.put_alone(bytes);
+    }
+
+    /// Puts a byte.
+    #[inline(always)]
+    pub fn put_byte(&mut self, byte: u8)
+        ensures { Puts K.written K.faults self.old self.new (byte ∷ []) }
+    {
+        if self.buffer.room() > 0 {
+            self.buffer.push_byte(byte);
+        } else {
+            self.put_later(&[byte]);
+        }
     }
 
     /// Puts a space and a word.
@@ -91,11 +113,32 @@ impl<'a, K: Sink> Page<'a, K> {
         self.digits(number);
     }
 
+    /// Puts the digits of a number of which most have one digit.
+    #[inline(always)]
+    pub fn short_digits(&mut self, number: u64)
+        ensures { Puts K.written K.faults self.old self.new (decimal number) }
+    {
+        if number < 10 {
+            self.put_byte(b'0' + number as u8);
+        } else {
+            self.digits(number);
+        }
+    }
+
+    /// Puts a space and a number of which most have one digit.
+    #[inline(always)]
+    pub fn short_number(&mut self, number: u64)
+        ensures { Puts K.written K.faults self.old self.new (32 ∷ decimal number) }
+    {
+        self.put_byte(b' ');
+        self.short_digits(number);
+    }
+
     /// Ends a line.
     pub fn end_line(&mut self)
         ensures { Puts K.written K.faults self.old self.new (10 ∷ []) }
     {
-        self.put(b"\n");
+        self.put_byte(b'\n');
     }
 
     /// Writes what still waits, and tells whether all that was put is written.

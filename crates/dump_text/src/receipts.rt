@@ -32,16 +32,16 @@ pub enum Form {
 fn put_pair<K: Sink>(page: &mut Page<'_, K>, first: u32, second: u32)
     ensures { Puts K.written K.faults page.old page.new (decimal first ++ (codes "/" ++ decimal second)) }
 {
-    page.digits(first);
-    page.put(b"/");
-    page.digits(second);
+    page.short_digits(first as u64);
+    page.put_byte(b'/');
+    page.short_digits(second as u64);
 }
 
 fn put_value<K: Sink>(page: &mut Page<'_, K>, form: Form, word: u64)
     ensures { Puts K.written K.faults page.old page.new (spelled form word) }
 {
     match form {
-        Form::Number => page.digits(word),
+        Form::Number => page.short_digits(word),
         Form::Tag => {
             let entry = TagEntry::of(word);
             put_pair(page, entry.uid, entry.tag);
@@ -57,11 +57,11 @@ fn put_seen_value<K: Sink>(page: &mut Page<'_, K>, form: Form, seen: Seen)
     ensures { Puts K.written K.faults page.old page.new (seen_value (spelled form) seen) }
 {
     if seen.version == 0 {
-        page.put(b"-");
+        page.put_byte(b'-');
         return;
     }
     match seen.value {
-        None => page.put(b"-"),
+        None => page.put_byte(b'-'),
         Some(word) => put_value(page, form, word),
     }
 }
@@ -69,8 +69,12 @@ fn put_seen_value<K: Sink>(page: &mut Page<'_, K>, form: Form, seen: Seen)
 fn put_seen<K: Sink>(page: &mut Page<'_, K>, form: Form, seen: Seen)
     ensures { Puts K.written K.faults page.old page.new (32 ∷ seen_word (spelled form) seen) }
 {
-    page.number(seen.version);
-    page.put(b":");
+    if seen.version == 0 {
+        page.put(b" 0:-");
+        return;
+    }
+    page.short_number(seen.version as u64);
+    page.put_byte(b':');
     put_seen_value(page, form, seen);
 }
 
@@ -78,7 +82,7 @@ fn put_read<K: Sink>(page: &mut Page<'_, K>, form: Form, read: Option<Seen>)
     ensures { Puts K.written K.faults page.old page.new (32 ∷ or_dash (seen_word (spelled form)) read) }
 {
     match read {
-        None => page.word(b"-"),
+        None => page.put(b" -"),
         Some(seen) => put_seen(page, form, seen),
     }
 }
@@ -87,8 +91,8 @@ fn put_phase<K: Sink>(page: &mut Page<'_, K>, phase: Option<u32>)
     ensures { Puts K.written K.faults page.old page.new (32 ∷ or_dash decimal phase) }
 {
     match phase {
-        None => page.word(b"-"),
-        Some(phase) => page.number(phase),
+        None => page.put(b" -"),
+        Some(phase) => page.short_number(phase as u64),
     }
 }
 
@@ -96,8 +100,8 @@ fn put_uid<K: Sink>(page: &mut Page<'_, K>, label: Option<Label>)
     ensures { Puts K.written K.faults page.old page.new (32 ∷ label_word (λ l. l.uid) label) }
 {
     match label {
-        None => page.word(b"-"),
-        Some(label) => page.number(label.uid),
+        None => page.put(b" -"),
+        Some(label) => page.short_number(label.uid as u64),
     }
 }
 
@@ -105,8 +109,8 @@ fn put_tag<K: Sink>(page: &mut Page<'_, K>, label: Option<Label>)
     ensures { Puts K.written K.faults page.old page.new (32 ∷ label_word (λ l. l.tag) label) }
 {
     match label {
-        None => page.word(b"-"),
-        Some(label) => page.number(label.tag),
+        None => page.put(b" -"),
+        Some(label) => page.short_number(label.tag as u64),
     }
 }
 
@@ -114,8 +118,8 @@ fn put_set<K: Sink>(page: &mut Page<'_, K>, label: Option<Label>)
     ensures { Puts K.written K.faults page.old page.new (32 ∷ label_word (λ l. l.set) label) }
 {
     match label {
-        None => page.word(b"-"),
-        Some(label) => page.number(label.set),
+        None => page.put(b" -"),
+        Some(label) => page.short_number(label.set as u64),
     }
 }
 
@@ -123,8 +127,8 @@ fn put_verdict<K: Sink>(page: &mut Page<'_, K>, verdict: Verdict)
     ensures { Puts K.written K.faults page.old page.new (32 ∷ verdict_word verdict) }
 {
     match verdict {
-        Verdict::Pass => page.word(b"pass"),
-        Verdict::Drop => page.word(b"drop"),
+        Verdict::Pass => page.put(b" pass"),
+        Verdict::Drop => page.put(b" drop"),
     }
 }
 
@@ -132,9 +136,9 @@ fn put_mark<K: Sink>(page: &mut Page<'_, K>, mark: Option<Mark>)
     ensures { Puts K.written K.faults page.old page.new (32 ∷ or_dash mark_word mark) }
 {
     match mark {
-        None => page.word(b"-"),
-        Some(Mark::Landed) => page.word(b"landed"),
-        Some(Mark::Full) => page.word(b"full"),
+        None => page.put(b" -"),
+        Some(Mark::Landed) => page.put(b" landed"),
+        Some(Mark::Full) => page.put(b" full"),
     }
 }
 
@@ -142,9 +146,9 @@ fn put_match<K: Sink>(page: &mut Page<'_, K>, matched: bool)
     ensures { Puts K.written K.faults page.old page.new (32 ∷ match_word matched) }
 {
     if matched {
-        page.word(b"match");
+        page.put(b" match");
     } else {
-        page.word(b"nomatch");
+        page.put(b" nomatch");
     }
 }
 
@@ -154,7 +158,7 @@ fn put_hook<K: Sink>(page: &mut Page<'_, K>, line: u64, receipt: &Receipt)
     page.put(b"rc");
     page.number(line);
     put_verdict(page, receipt.verdict);
-    page.number(receipt.front);
+    page.short_number(receipt.front as u64);
     put_read(page, Form::Tag, Some(receipt.tag_read));
     put_read(page, Form::Number, receipt.rules_read);
     put_read(page, Form::Owner, receipt.owner_read);
@@ -185,7 +189,7 @@ fn put_list_receipt<K: Sink>(page: &mut Page<'_, K>, line: u64, receipt: &ListRe
     page.put(b"lc");
     page.number(line);
     put_match(page, receipt.matched);
-    page.number(receipt.front);
+    page.short_number(receipt.front as u64);
     put_read(page, Form::Owner, receipt.owner_read);
     page.end_line();
 }
