@@ -4,7 +4,8 @@
 //! run, and the text of a fault goes to standard error.
 #![tactic(auto)]
 
-use outside::{ArgList, StdSink, StdSource};
+use hook_engine::NoTally;
+use outside::{ArgList, NoGate, StdSink, StdSource};
 use replay_main::{Fault, run};
 use std::io::ErrorKind;
 use std::process::ExitCode;
@@ -44,7 +45,15 @@ fn main(rt: HostRuntime) -> ExitCode {
     };
     let mut source = StdSource::new(rt.stdin());
     let mut sink = StdSink::new(rt.stdout());
-    let outcome = run(rt.alloc(), &words, &mut source, &mut sink);
+    let outcome = run(
+        &rt,
+        rt.alloc(),
+        &words,
+        &mut source,
+        &mut sink,
+        &NoGate,
+        &mut NoTally,
+    );
     if let Some(fault) = outcome.fault {
         print_fault(&rt, fault);
     }

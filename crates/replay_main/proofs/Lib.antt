@@ -5,6 +5,8 @@ pub mod Judging
 pub mod Arriving
 pub mod Feeding
 pub mod Coming
+pub mod FewCharges
+pub mod Summing
 pub mod Telling
 pub mod LineFaults
 pub mod OneScript
@@ -14,3 +16,15 @@ pub mod OneJudgement
 pub mod Replaying
 pub mod Apps
 pub mod Outsides
+pub mod EngineEnds
+pub mod EngineTold
+pub mod Packets
+pub mod InOrder
+pub mod SerialLane
+pub mod SerialDesk
+pub mod SerialWhole
+pub mod SerialRun
+pub mod EngineDump
+pub mod EngineSizes
+pub mod EngineRan
+pub mod EngineOpens

@@ -1,15 +1,18 @@
 -- What was read of a source, and what is true of it.
-use Rattle.std.proofs.Common.{◌≡◌, ◌⊎◌, ℕ, List, ◌++◌, take, refl, sym, ap, subst, ◌∙◌, arith, inl, inr, Option, Some, None, append-nil, Bool, ◌≢◌, Result, Err, IsErrOf, IfSome}
+use Rattle.std.proofs.Common.{◌≡◌, ◌⊎◌, ℕ, List, ◌++◌, take, refl, sym, ap, subst, ◌∙◌, arith, inl, inr, Option, Some, None, append-nil, Bool, ◌≢◌, Result, Err, IsErrOf, IfSome, IfNone}
 use Rattle.std.proofs.lemmas.List.{take_all}
+use Rattle.hook_engine.specs.Ends.{Told}
 use Rattle.script_text.specs.declared.limits.Counts.{Counts}
 use Rattle.shelf.specs.declared.report.Report.{Report}
 use Rattle.replay_main.specs.declared.fault.Fault.{Fault}
 use Rattle.replay_main.specs.declared.fault.Fault.TheVariants as fault
-use Rattle.replay_main.specs.declared.words.Form.TheVariants.{Replay, Plain}
+use Rattle.replay_main.specs.declared.words.Form.{Form}
+use Rattle.replay_main.specs.declared.words.Form.TheVariants.{Replay, Plain, Check}
 use Rattle.replay_main.specs.Judged.{IsScriptText}
 use Rattle.replay_main.specs.Judgements.{ScriptHasNoFault, OneFault}
 use Rattle.replay_main.specs.Reached.{IsRead, IsPlain, IsCheckedAs}
-use Rattle.replay_main.specs.Run.{WasSo, TellsSo, LooksLikeScript, DecidesOn, IsOfText, Gives, HasRun}
+use Rattle.replay_main.specs.Run.{WasSo, TellsSo, LooksLikeScript, DecidesOn, IsOfText, IsReplayed, Gives, HasRun}
+use Rattle.replay_main.specs.Words.{IsPlainForm}
 
 -- what was read is a script
 pub read_script : (was now : Option (List ℕ)) (text : List ℕ) → IsRead was now text → IsScriptText text → WasSo LooksLikeScript was
@@ -25,13 +28,19 @@ plain_script text report is = (is.header, is.sections, is.calls, is.judged)
 pub checked_script : (text : List ℕ) (counts : Counts) → IsCheckedAs text counts → IsScriptText text
 checked_script text counts is = (is.header, is.sections, is.calls, is.judged)
 
--- a replay on one thread is a replay
-gives_replayed : (receipts : Bool) (script : List ℕ) (report : Option Report) (text : List ℕ) → Gives (Plain receipts) script report text → Gives (Replay receipts) script report text
-gives_replayed receipts script None text h = absurd h
-gives_replayed receipts script (Some report) text (is, written) = (record { header = is.header; sections = is.sections; calls = is.calls; judged = is.judged; honest = is.honest }, written)
+pub replayed_script : (text : List ℕ) (report : Report) (before after : Option Told) → IsReplayed text report before after → IsScriptText text
+replayed_script text report before after is = (is.header, is.sections, is.calls, is.judged)
 
-pub replay_run : (receipts : Bool) (was now : Option (List ℕ)) (report : Option Report) (Writes : List ℕ → Type 0) → HasRun (Plain receipts) was now report Writes → HasRun (Replay receipts) was now report Writes
-replay_run receipts was now report Writes h = record { script = h.script; read = h.read; text = h.text; gives = gives_replayed receipts h.script report h.text h.gives; writes = h.writes }
+-- what is done on one thread tells no tally, whatever that tells
+plain_gives : (form : Form) (script : List ℕ) (before after : Option Told) (report : Option Report) (text : List ℕ) → IsPlainForm form → Gives form script None None report text → Gives form script before after report text
+plain_gives (Replay receipts) script before after report text plain h = absurd plain
+plain_gives (Plain receipts) script before after None text plain h = absurd h
+plain_gives (Plain receipts) script before after (Some report) text plain h = h
+plain_gives Check script before after None text plain h = h
+plain_gives Check script before after (Some report) text plain h = absurd h
+
+pub plain_run : (form : Form) (was now : Option (List ℕ)) (before after : Option Told) (report : Option Report) (Writes : List ℕ → Type 0) → IsPlainForm form → HasRun form was now None None report Writes → HasRun form was now before after report Writes
+plain_run form was now before after report Writes plain h = record { script = h.script; read = h.read; text = h.text; gives = plain_gives form h.script before after report h.text plain h.gives; writes = h.writes }
 
 -- ---- which fault comes
 
@@ -90,3 +99,6 @@ err_is r f e is at = cc
 
 pub some_is : {T : Type 0} {o : Option T} {x : T} (P : T → Type 0) → IfSome o P → o ≡ Some x → P x
 some_is {T} {o} {x} P h is = subst (λ (o : Option T). IfSome o P) is h
+
+pub none_is : {T : Type 0} {o : Option T} {P : Type 0} → IfNone o P → o ≡ None → P
+none_is {T} {o} {P} h is = subst (λ (o : Option T). IfNone o P) is h

@@ -35,45 +35,8 @@ use Rattle.acct_plain.proofs.Keeping.{small_in}
 use Rattle.acct_plain.proofs.Sound.{IsSound, whole_phase, section_sound, none_sound}
 use Rattle.acct_plain.proofs.Tables.{phase_holds, totals_hold}
 use Rattle.dump_text.specs.Room.{SumsFit, AppsCoverDeletions}
-
--- ---- bounds
-
-part_has_room : (m : ℕ) (a b : Amount) → m ≤ 2097152 → IsAtMost a b → IsBelow m b → HasRoom a
-part_has_room m a b le h k = record {
-  rx_packets = omega (arith, le, h.rx_packets, k.rx_packets);
-  rx_bytes = omega (arith, le, h.rx_bytes, k.rx_bytes);
-  tx_packets = omega (arith, le, h.tx_packets, k.tx_packets);
-  tx_bytes = omega (arith, le, h.tx_bytes, k.tx_bytes);
-}
-
-at_most_is : (a b : Amount) → a ≡ b → IsAtMost a b
-at_most_is a b e = subst (IsAtMost a) e (record { rx_packets = omega arith; rx_bytes = omega arith; tx_packets = omega arith; tx_bytes = omega arith })
-
-more_on_both : (a b c : Amount) → IsAtMost a b → IsAtMost (plus c a) (plus c b)
-more_on_both a b c h = record {
-  rx_packets = omega (arith, h.rx_packets);
-  rx_bytes = omega (arith, h.rx_bytes);
-  tx_packets = omega (arith, h.tx_packets);
-  tx_bytes = omega (arith, h.tx_bytes);
-}
-
-more_on_right : (a b c : Amount) → IsAtMost a b → IsAtMost a (plus c b)
-more_on_right a b c h = record {
-  rx_packets = omega (arith, h.rx_packets);
-  rx_bytes = omega (arith, h.rx_bytes);
-  tx_packets = omega (arith, h.tx_packets);
-  tx_bytes = omega (arith, h.tx_bytes);
-}
-
--- rows of a list's part hold no more than the whole
-filtered_at_most : (test : Row → Bool) (rows : List Row) (l : Label) → IsAtMost (amount_at (filter test rows) l) (amount_at rows l)
-filtered_at_most test [] l = record { rx_packets = omega arith; rx_bytes = omega arith; tx_packets = omega arith; tx_bytes = omega arith }
-filtered_at_most test (row ∷ rows) l =
-    let rest = filtered_at_most test rows l in
-    elim (test row) as (λ b. IsAtMost (amount_at (cond b (row ∷ filter test rows) (filter test rows)) l) (plus (amount_if (same_label row.label l) row.amount) (amount_at rows l))) [
-      | true ↦ more_on_both (amount_at (filter test rows) l) (amount_at rows l) (amount_if (same_label row.label l) row.amount) rest
-      | false ↦ more_on_right (amount_at (filter test rows) l) (amount_at rows l) (amount_if (same_label row.label l) row.amount) rest
-    ]
+use Rattle.replay_main.proofs.FewCharges.{LengthsAreCharged, charges_few, charges_small}
+use Rattle.replay_main.proofs.Summing.{shelved_at_most, rows_fit}
 
 -- ---- few and small charges
 
@@ -84,52 +47,16 @@ record FewCharges (past : Past) (n : ℕ) : Type 0 where
 few_wider : (past : Past) (m n : ℕ) → m ≤ n → FewCharges past m → FewCharges past n
 few_wider past m n le h = let few = h.few in record { few = omega (arith, few, le); small = h.small }
 
-few_to : (call : HookCall) (l : Label) (phase : Option ℕ) (m : Option Mark) → length (charge_to call l phase m) ≤ 1
-few_to call l (Some n) (Some m) = omega arith
-few_to call l None m = omega arith
-few_to call l (Some n) None = omega arith
-
--- Each recorded length counts for packets and bytes that a charge may add.
-abbrev pub LengthsAreCharged : Type 0
-LengthsAreCharged = (len : ℕ) (family : Family) → 1 ≤ len → len ≤ 262144 → IsChargeable (scaled len family).0 (scaled len family).1
-
 module _ (charged : LengthsAreCharged) (privileged : List ℕ) (sizes : Sizes) where
-  small_to : (call : HookCall) (l : Label) (phase : Option ℕ) (m : Option Mark) → IsHookInRange call → AllByRecursion (λ (c : Charge). IsSmall (charge_amount c)) (charge_to call l phase m)
-  small_to call l (Some n) (Some m) range = (small_in call.dir (scaled call.len call.family).0 (scaled call.len call.family).1 (charged call.len call.family range.some_len range.len), tt)
-  small_to call l None m range = tt
-  small_to call l (Some n) None range = tt
-
-  few_more : (past : Past) (call : Call) → length (charges (call, serial_line sizes past call)) ≤ 2
-  few_more past (Hook call) =
-      let r = serial_receipt sizes past call in
-      let tagged = charge_to call (label call r) r.phase r.landed_tag in
-      let plain = charge_to call (untagged (label call r)) r.phase r.landed_plain in
-      let first = few_to call (label call r) r.phase r.landed_tag in
-      let second = few_to call (untagged (label call r)) r.phase r.landed_plain in
-      let both : length (tagged ++ plain) ≡ length tagged + length plain = length-append tagged plain in
-      omega (arith, first, second, both)
-  few_more past (Iface call) = omega arith
-  few_more past (Allow sock_uid cookie received) = omega arith
-  few_more past (Deny sock_uid) = omega arith
-
-  small_more : (past : Past) (call : Call) → IsCallInRange call → AllByRecursion (λ (c : Charge). IsSmall (charge_amount c)) (charges (call, serial_line sizes past call))
-  small_more past (Hook call) range =
-      let r = serial_receipt sizes past call in
-      all_append (λ (c : Charge). IsSmall (charge_amount c)) (charge_to call (label call r) r.phase r.landed_tag) (charge_to call (untagged (label call r)) r.phase r.landed_plain)
-      (small_to call (label call r) r.phase r.landed_tag range) (small_to call (untagged (label call r)) r.phase r.landed_plain range)
-  small_more past (Iface call) range = tt
-  small_more past (Allow sock_uid cookie received) range = tt
-  small_more past (Deny sock_uid) range = tt
-
   call_few : (past : Past) (n : ℕ) (call : Call) → IsCallInRange call → FewCharges past n → FewCharges (after_call past call (serial_line sizes past call)) (n + 2)
   call_few past n call range h =
       let few = h.few in
       let new = charges (call, serial_line sizes past call) in
-      let more = few_more past call in
+      let more = charges_few call (serial_line sizes past call) in
       let long : length (past.charges ++ new) ≡ length past.charges + length new = length-append past.charges new in
       record {
         few = omega (arith, few, more, long);
-        small = all_append (λ (c : Charge). IsSmall (charge_amount c)) past.charges new h.small (small_more past call range);
+        small = all_append (λ (c : Charge). IsSmall (charge_amount c)) past.charges new h.small (charges_small charged call (serial_line sizes past call) range);
       }
 
   lane_few : (past : Past) (n : ℕ) (calls : List (ℕ × Call)) → AllByRecursion (λ (c : ℕ × Call). IsCallInRange c.1) calls → FewCharges past n → FewCharges (walk_lane sizes past calls).0 (n + 2 * length calls)
@@ -175,101 +102,11 @@ sections_sound privileged sizes past (s ∷ ss) range sound = sections_sound pri
 whole_is : (sizes : Sizes) (past : Past) (n : ℕ) (l : Label) → IsSound sizes past → amount_at (rows_from past.charges n) l ≡ folded past.charges n l
 whole_is sizes past n l sound = let held = phase_holds sizes.rows n past.charges sound.valid sound.charges_turn in held.holds.amounts l
 
--- what stands on the shelf of it
-shelved_at_most : (sizes : Sizes) (past : Past) (n : ℕ) (l : Label) (p : Snapshot × Option Deletion) → IsSound sizes past → IsShelved (whole_phase past n) p → IsAtMost (amount_at p.0.rows l) (folded past.charges n l)
-shelved_at_most sizes past n l (snapshot, None) sound is =
-    at_most_is (amount_at snapshot.rows l) (folded past.charges n l) (ap (λ (s : Snapshot). amount_at s.rows l) is ∙ whole_is sizes past n l sound)
-shelved_at_most sizes past n l (snapshot, Some d) sound is =
-    let whole = rows_from past.charges n in
-    let test : Row → Bool = λ row. not (is_deleted d.uid d.tag row) in
-    subst (λ (x : List Row × Amount). IsAtMost (amount_at x.0 l) x.1) (λ i. (sym is.left i, whole_is sizes past n l sound i)) (filtered_at_most test whole l)
-
--- The charge landed at this label in a phase before this one.
-abbrev pub lands_before : ℕ → Label → Charge → Bool
-lands_before phase l c = c.landed && nat_lt c.phase phase && same_label c.job.label l
-
--- The sum of the charges that did.
-abbrev pub folded_before : List Charge → ℕ → Label → Amount
-folded_before cs phase l = total_by (λ (c : Charge). amount_if (lands_before phase l c) (charge_amount c)) cs
-
-either_counts : (x s t y : Bool) (a : Amount) → (s && t) ≡ false → plus (amount_if (x && s && y) a) (amount_if (x && t && y) a) ≡ amount_if (x && (s || t) && y) a
-either_counts false s t y a e = zero_plus zero_amount
-either_counts true true true y a e = absurd (cc)
-either_counts true true false y a e = plus_zero (amount_if y a)
-either_counts true false t y a e = zero_plus (amount_if (t && y) a)
-
-not_both : (p k : ℕ) → (nat_lt p k && p == k) ≡ false
-not_both p k = grind (arith, nat_tests)
-
-one_later : (p k : ℕ) → nat_lt p (suc k) ≡ (nat_lt p k || p == k)
-one_later p k = grind (arith, nat_tests)
-
-regroup : (a b c d : Amount) → plus (plus a b) (plus c d) ≡ plus (plus a c) (plus b d)
-regroup a b c d = λ i. record {
-  rx_packets = four a.rx_packets b.rx_packets c.rx_packets d.rx_packets i;
-  rx_bytes = four a.rx_bytes b.rx_bytes c.rx_bytes d.rx_bytes i;
-  tx_packets = four a.tx_packets b.tx_packets c.tx_packets d.tx_packets i;
-  tx_bytes = four a.tx_bytes b.tx_bytes c.tx_bytes d.tx_bytes i;
-}
-  where
-    four : (a b c d : ℕ) → a + b + (c + d) ≡ a + c + (b + d)
-    four a b c d = omega arith
-
--- a phase more
-folded_more : (cs : List Charge) (k : ℕ) (l : Label) → plus (folded_before cs k l) (folded cs k l) ≡ folded_before cs (suc k) l
-folded_more [] k l = zero_plus zero_amount
-folded_more (c ∷ cs) k l =
-    let one = either_counts c.landed (nat_lt c.phase k) (c.phase == k) (same_label c.job.label l) (charge_amount c) (not_both c.phase k)
-    ∙ ap (λ b. amount_if (c.landed && b && same_label c.job.label l) (charge_amount c)) (sym (one_later c.phase k)) in
-    regroup (amount_if (lands_before k l c) (charge_amount c)) (folded_before cs k l) (amount_if (lands_at k l c) (charge_amount c)) (folded cs k l)
-    ∙ (λ i. plus (one i) (folded_more cs k l i))
-
--- a phase's rows behind those before, and the rows of later ones
-next_phase : (x y a b all : Amount) → IsAtMost a y → IsAtMost (plus (plus x y) b) all → IsAtMost (plus x (plus a b)) all
-next_phase x y a b all h g = record {
-  rx_packets = omega (arith, h.rx_packets, g.rx_packets);
-  rx_bytes = omega (arith, h.rx_bytes, g.rx_bytes);
-  tx_packets = omega (arith, h.tx_packets, g.tx_packets);
-  tx_bytes = omega (arith, h.tx_bytes, g.tx_bytes);
-}
-
--- Snapshots of the phases from this one on hold at a label at most what landed there in these phases.
-snapshots_at_most : (cs : List Charge) (k : ℕ) (phases : Phases) (l : Label) → ((n : ℕ) (p : Snapshot × Option Deletion) → slice_get phases n ≡ Some p → IsAtMost (amount_at p.0.rows l) (folded cs (k + n) l)) →
-    IsAtMost (plus (folded_before cs k l) (amount_at (snapshot_rows phases) l)) (folded_before cs (k + length phases) l)
-snapshots_at_most cs k [] l h =
-    let same : k ≡ k + 0 = omega arith in
-    at_most_is (plus (folded_before cs k l) zero_amount) (folded_before cs (k + 0) l) (plus_zero (folded_before cs k l) ∙ ap (λ m. folded_before cs m l) same)
-snapshots_at_most cs k (p ∷ ps) l h =
-    let same : suc k + length ps ≡ k + length (p ∷ ps) = omega arith in
-    let here : k + 0 ≡ k = omega arith in
-    let shift : (n : ℕ) → k + suc n ≡ suc k + n = λ n. omega arith in
-    let rest = snapshots_at_most cs (suc k) ps l (λ n q e. subst (λ m. IsAtMost (amount_at q.0.rows l) (folded cs m l)) (shift n) (h (suc n) q e)) in
-    let all = folded_before cs (k + length (p ∷ ps)) l in
-    subst (λ (a : Amount). IsAtMost (plus (folded_before cs k l) a) all) (sym (amount_at-append p.0.rows (snapshot_rows ps) l))
-    (next_phase (folded_before cs k l) (folded cs k l) (amount_at p.0.rows l) (amount_at (snapshot_rows ps) l) all
-    (subst (λ m. IsAtMost (amount_at p.0.rows l) (folded cs m l)) here (h zero p refl))
-    (subst (λ (x : Amount × ℕ). IsAtMost (plus x.0 (amount_at (snapshot_rows ps) l)) (folded_before cs x.1 l)) (λ i. (sym (folded_more cs k l) i, same i)) rest))
-
-with_live : (x a b y all : Amount) → IsAtMost (plus x a) y → plus y b ≡ all → IsAtMost (plus a b) all
-with_live x a b y all h e = subst (IsAtMost (plus a b)) e (record {
-  rx_packets = omega (arith, h.rx_packets);
-  rx_bytes = omega (arith, h.rx_bytes);
-  tx_packets = omega (arith, h.tx_packets);
-  tx_bytes = omega (arith, h.tx_bytes);
-})
-
 past_fits : (sizes : Sizes) (past : Past) (l : Label) → IsSound sizes past → FewCharges past 2097152 → HasRoom (amount_at (kept_rows past.phases (live_snapshot past)) l)
 past_fits sizes past l sound h =
-    let cs = past.charges in
-    let now = length past.phases in
-    let from_zero : (n : ℕ) → n ≡ 0 + n = λ n. omega arith in
-    let phases = snapshots_at_most cs 0 past.phases l (λ n p e. subst (λ m. IsAtMost (amount_at p.0.rows l) (folded cs m l)) (from_zero n) (shelved_at_most sizes past n l p sound (sound.shelved n p e))) in
-    let shelf = subst (λ m. IsAtMost (plus (folded_before cs 0 l) (amount_at (snapshot_rows past.phases) l)) (folded_before cs m l)) (sym (from_zero now)) phases in
-    let total : plus (folded_before cs now l) (amount_at (rows_from cs now) l) ≡ folded_before cs (suc now) l =
-    ap (plus (folded_before cs now l)) (whole_is sizes past now l sound) ∙ folded_more cs now l in
-    let both = with_live (folded_before cs 0 l) (amount_at (snapshot_rows past.phases) l) (amount_at (rows_from cs now) l) (folded_before cs now l) (folded_before cs (suc now) l) shelf total in
-    subst HasRoom (sym (amount_at-append (snapshot_rows past.phases) (rows_from cs now) l))
-    (part_has_room (length cs) (plus (amount_at (snapshot_rows past.phases) l) (amount_at (rows_from cs now) l)) (folded_before cs (suc now) l) h.few both (sum_below (lands_before (suc now) l) charge_amount cs h.small))
+    rows_fit past.charges past.phases (live_snapshot past) l h.few h.small
+    (λ n p e. subst (λ (a : Amount). IsAtMost (amount_at p.0.rows l) a) (whole_is sizes past n l sound) (shelved_at_most (whole_phase past n) l p (sound.shelved n p e)))
+    (whole_is sizes past (length past.phases) l sound)
 
 -- ---- the walk's report
 

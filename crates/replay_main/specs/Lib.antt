@@ -5,3 +5,5 @@ pub mod Incoming
 pub mod Reached
 pub mod Judgements
 pub mod Run
+pub mod Replays
+pub mod OnEngine

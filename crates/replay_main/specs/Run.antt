@@ -1,29 +1,45 @@
 -- What a run reads, gives and writes.
 use Rattle.std.specs.Prelude.{◌≡◌, ℕ, List, [], ◌∷◌, codes, decimal, Option, None, Some}
+use Rattle.std.specs.List.{AllByRecursion}
 use Rattle.acct_base.specs.Text.{line_text}
 use Rattle.script_text.specs.declared.header.Header.{Header}
 use Rattle.script_text.specs.declared.section.Section.{Section}
 use Rattle.script_text.specs.declared.limits.Counts.{Counts}
 use Rattle.script_text.specs.Script.{looked_at}
-use Rattle.captures.specs.Calls.{SectionCalls}
+use Rattle.hook_engine.specs.Ends.{Told}
+use Rattle.captures.specs.Calls.{SectionCalls, Asked}
 use Rattle.captures.specs.Honest.{IsHonest}
 use Rattle.shelf.specs.declared.report.Report.{Report}
-use Rattle.shelf.specs.Shown.{shown}
+use Rattle.shelf.specs.Shown.{Shown, shown}
+use Rattle.acct_plain.specs.Serial.{serial}
 use Rattle.dump_text.specs.Dump.{dump}
+use Rattle.lanes.specs.Sections.{IsSerialSection}
 use Rattle.replay_main.specs.declared.fault.Fault.{Fault}
 use Rattle.replay_main.specs.declared.fault.Fault.TheVariants as fault
 use Rattle.replay_main.specs.declared.words.Form.{Form}
 use Rattle.replay_main.specs.declared.words.Form.TheVariants.{Replay, Plain, Check}
 use Rattle.replay_main.specs.Judged.{IsJudged, Decides, IsScriptText, asked_of}
 use Rattle.replay_main.specs.Reached.{IsRead, IsPlain, IsCheckedAs}
+use Rattle.replay_main.specs.Replays.{IsTold}
 
--- The text is a script, and the report is honest to what it asks for.
-pub record IsReplayed (text : List ℕ) (report : Report) : Type 0 where
+-- A tally was told of a report, where it tells what it is told.
+abbrev pub WasTold : Asked → Shown → Option Told → Option Told → Type 0
+WasTold asked report None after = Unit {0}
+WasTold asked report (Some before) None = ⊥
+WasTold asked report (Some before) (Some after) = IsTold asked report before after
+
+-- The text is a script, which was replayed on an engine.
+pub record IsReplayed (text : List ℕ) (report : Report) (before after : Option Told) : Type 0 where
   pub header : Header
   pub sections : List Section
   pub calls : List SectionCalls
   pub judged : IsJudged text header sections calls
+  -- The report is honest to what the script asks for, whatever the order in which lanes, desk and collector took their steps.
   pub honest : IsHonest (asked_of header calls) (shown report)
+  -- Where no section's receipts depend on that order, it is the report of the replay on one thread.
+  pub serial : AllByRecursion IsSerialSection calls → shown report ≡ serial (asked_of header calls)
+  -- What the engine's tables got is what the receipts say.
+  pub told : WasTold (asked_of header calls) (shown report) before after
 
 -- The line that tells the counts of a script.
 abbrev pub check_text : Counts → List ℕ
@@ -50,20 +66,20 @@ DecidesOn f text = Decides (looked_at text) f
 abbrev pub LooksLikeScript : List ℕ → Type 0
 LooksLikeScript text = IsScriptText (looked_at text)
 
--- What a run of a form gives for a script, and has to write: for `replay` an honest report and its dump; for `plain` the report of the
--- replay on one thread, which is honest, and its dump; for `check` the counts of the script.
-abbrev pub Gives : Form → List ℕ → Option Report → List ℕ → Type 0
-Gives (Replay receipts) script (Some report) text = IsReplayed script report × (text ≡ dump (shown report) receipts)
-Gives (Plain receipts) script (Some report) text = IsPlain script report × (text ≡ dump (shown report) receipts)
-Gives Check script None text = (counts : Counts) × IsCheckedAs script counts × (text ≡ check_text counts)
-Gives _ script _ text = ⊥
+-- What a run of a form gives for a script, and has to write: for `replay` the report of a replay on an engine and its dump; for `plain`
+-- that of the replay on one thread and its dump; for `check` the counts of the script.
+abbrev pub Gives : Form → List ℕ → Option Told → Option Told → Option Report → List ℕ → Type 0
+Gives (Replay receipts) script before after (Some report) text = IsReplayed script report before after × (text ≡ dump (shown report) receipts)
+Gives (Plain receipts) script before after (Some report) text = IsPlain script report × (text ≡ dump (shown report) receipts)
+Gives Check script before after None text = (counts : Counts) × IsCheckedAs script counts × (text ≡ check_text counts)
+Gives _ script before after _ text = ⊥
 
--- A run did what its words ask for: it read a script, which was all that its source had, and wrote all of its text, or a front of it.
-pub record HasRun (form : Form) (was now : Option (List ℕ)) (report : Option Report) (Writes : List ℕ → Type 0) : Type 0 where
+-- A run did what its words ask for: it read a script, which was all that its source had, told the tally, and wrote all of its text, or a front of it.
+pub record HasRun (form : Form) (was now : Option (List ℕ)) (before after : Option Told) (report : Option Report) (Writes : List ℕ → Type 0) : Type 0 where
   pub script : List ℕ
   pub read : IsRead was now script
   pub text : List ℕ
-  pub gives : Gives form script report text
+  pub gives : Gives form script before after report text
   pub writes : Writes text
 
 -- The fault is one of the text's.

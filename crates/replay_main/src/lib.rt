@@ -5,14 +5,17 @@ mod check;
 mod fault;
 mod incoming;
 mod laws;
+mod on_engine;
 mod outcome;
 mod parts;
 mod replay;
+mod runs;
 #[cfg(test)]
 mod tests;
 mod words;
 
 pub use fault::Fault;
-pub use laws::{one_judgement, serial_can_be_told};
-pub use outcome::{Outcome, run, run_plain};
+pub use laws::{one_judgement, replays_can_be_told, replays_on_engines, serial_can_be_told};
+pub use outcome::{Outcome, run_plain};
+pub use runs::run;
 pub use words::{Form, form_of};

@@ -1,4 +1,4 @@
-//! The top calls: a script is read from a source, judged and replayed, and what was asked for is written to a sink.
+//! What a run comes to, and the runs that need no other thread: a script is read from a source, judged and replayed on this one, and what was asked for is written to a sink.
 
 ghost use Rattle.std.specs.Prelude.{◌≡◌, ◌≢◌, ◌⊎◌, ◌↔◌, List, ℕ, Some, None, IfOk, IfErr, OnOk, IsErrOf, string_bytes};
 ghost use Rattle.std.specs.Io.KnownBytes.{Appends};
@@ -6,7 +6,7 @@ ghost use Rattle.outside.specs.Outside.{Rose, AppendsPrefix};
 ghost use Rattle.replay_main.specs.declared.fault.Fault.{Fault as Faulty};
 ghost use Rattle.replay_main.specs.declared.words.Form.{Form as Asks};
 ghost use Rattle.replay_main.specs.declared.words.Form.TheVariants.{Plain, Check};
-ghost use Rattle.replay_main.specs.Words.{words_of, IsPlainForm, AreNoForm, AreNoPlainForm};
+ghost use Rattle.replay_main.specs.Words.{words_of, IsPlainForm, AreNoPlainForm};
 ghost use Rattle.replay_main.specs.Faults.{status_of, IsJudgingFault};
 ghost use Rattle.replay_main.specs.Reached.{IsRead};
 ghost use Rattle.replay_main.specs.Run.{HasRun, Gives, WasSo, TellsSo, DecidesOn, LooksLikeScript, IsOfText, check_text};
@@ -33,7 +33,7 @@ pub struct Outcome {
 }
 
 /// What a run comes to that refuses what it was asked.
-fn refused(fault: Fault) -> Outcome
+pub(crate) fn refused(fault: Fault) -> Outcome
     ensures { result ≡ record { status = status_of (Some fault); fault = Some fault; report = None } }
 {
     Outcome {
@@ -43,15 +43,15 @@ fn refused(fault: Fault) -> Outcome
     }
 }
 
-/// Judges and replays the script that a source has, and writes its dump.
-fn replay_to<S: Source, K: Sink>(
+/// Judges the script that a source has, replays it on this thread, and writes its dump.
+fn plain_to<S: Source, K: Sink>(
     alloc: Global,
     receipts: bool,
     source: &mut S,
     sink: &mut K,
 ) -> Outcome
-    ensures done { result.fault ≡ None → HasRun (Plain receipts) (S.left source.old) (S.left source.new) result.report (Appends (K.written sink.old) (K.written sink.new)) }
-    ensures cut_off { result.fault ≡ Some Fault.WriteFault → HasRun (Plain receipts) (S.left source.old) (S.left source.new) result.report (AppendsPrefix (K.written sink.old) (K.written sink.new)) }
+    ensures done { result.fault ≡ None → HasRun (Plain receipts) (S.left source.old) (S.left source.new) None None result.report (Appends (K.written sink.old) (K.written sink.new)) }
+    ensures cut_off { result.fault ≡ Some Fault.WriteFault → HasRun (Plain receipts) (S.left source.old) (S.left source.new) None None result.report (AppendsPrefix (K.written sink.old) (K.written sink.new)) }
     ensures read_fault { result.fault ≡ Some Fault.ReadFault → Rose (S.faults source.old) (S.faults source.new) }
     ensures write_fault { result.fault ≡ Some Fault.WriteFault → Rose (K.faults sink.old) (K.faults sink.new) }
     ensures script { result.fault ≡ None → WasSo LooksLikeScript (S.left source.old) }
@@ -94,7 +94,7 @@ fn check_line(alloc: Global, counts: &Counts) -> Result<String, AllocError>
 
 /// Judges the script that a source has, and gives the line with its counts.
 fn line_of<S: Source>(alloc: Global, source: &mut S) -> Result<String, Fault>
-    ensures gives { IfOk result (λ line. (script : List ℕ) × IsRead (S.left source.old) (S.left source.new) script × Gives Check script None (string_bytes line)) }
+    ensures gives { IfOk result (λ line. (script : List ℕ) × IsRead (S.left source.old) (S.left source.new) script × Gives Check script None None None (string_bytes line)) }
     ensures script { OnOk result (WasSo LooksLikeScript (S.left source.old)) }
     ensures read_fault { IsErrOf result Fault.ReadFault → Rose (S.faults source.old) (S.faults source.new) }
     ensures decides { (f : Faulty) → IsErrOf result f → IsOfText f → WasSo (DecidesOn f) (S.left source.old) }
@@ -107,8 +107,8 @@ fn line_of<S: Source>(alloc: Global, source: &mut S) -> Result<String, Fault>
 
 /// Judges the script that a source has, and writes its counts.
 fn check_to<S: Source, K: Sink>(alloc: Global, source: &mut S, sink: &mut K) -> Outcome
-    ensures done { result.fault ≡ None → HasRun Check (S.left source.old) (S.left source.new) result.report (Appends (K.written sink.old) (K.written sink.new)) }
-    ensures cut_off { result.fault ≡ Some Fault.WriteFault → HasRun Check (S.left source.old) (S.left source.new) result.report (AppendsPrefix (K.written sink.old) (K.written sink.new)) }
+    ensures done { result.fault ≡ None → HasRun Check (S.left source.old) (S.left source.new) None None result.report (Appends (K.written sink.old) (K.written sink.new)) }
+    ensures cut_off { result.fault ≡ Some Fault.WriteFault → HasRun Check (S.left source.old) (S.left source.new) None None result.report (AppendsPrefix (K.written sink.old) (K.written sink.new)) }
     ensures read_fault { result.fault ≡ Some Fault.ReadFault → Rose (S.faults source.old) (S.faults source.new) }
     ensures write_fault { result.fault ≡ Some Fault.WriteFault → Rose (K.faults sink.old) (K.faults sink.new) }
     ensures script { result.fault ≡ None → WasSo LooksLikeScript (S.left source.old) }
@@ -147,9 +147,9 @@ pub fn run_plain<S: Source, K: Sink>(
 ) -> Outcome
     // Without a fault all was read, replayed and written; after a write fault a front was written.
     ensures done { result.fault ≡ None → (form : Asks) × IsPlainForm form × (words.now ≡ words_of form)
-        × HasRun form (S.left source.old) (S.left source.new) result.report (Appends (K.written sink.old) (K.written sink.new)) }
+        × HasRun form (S.left source.old) (S.left source.new) None None result.report (Appends (K.written sink.old) (K.written sink.new)) }
     ensures cut_off { result.fault ≡ Some Fault.WriteFault → (form : Asks) × IsPlainForm form × (words.now ≡ words_of form)
-        × HasRun form (S.left source.old) (S.left source.new) result.report (AppendsPrefix (K.written sink.old) (K.written sink.new)) }
+        × HasRun form (S.left source.old) (S.left source.new) None None result.report (AppendsPrefix (K.written sink.old) (K.written sink.new)) }
 
     // The causes of the faults.
     ensures usage { (result.fault ≡ Some Fault.Usage) ↔ AreNoPlainForm words.now }
@@ -174,51 +174,7 @@ pub fn run_plain<S: Source, K: Sink>(
     match form_of(words) {
         None => refused(Fault::Usage),
         Some(Form::Replay { .. }) => refused(Fault::Usage),
-        Some(Form::Plain { receipts }) => replay_to(alloc, receipts, source, sink),
+        Some(Form::Plain { receipts }) => plain_to(alloc, receipts, source, sink),
         Some(Form::Check) => check_to(alloc, source, sink),
-    }
-}
-
-/// Does what the words ask for: with `replay` or `plain` it reads a script from the source to its end, replays it and
-/// writes its dump to the sink; with `check` it judges the script and writes its counts.
-///
-/// The replay is made on one thread, section by section. Want of memory is the one fault that needs no cause.
-pub fn run<S: Source, K: Sink>(
-    alloc: Global,
-    words: &ArgList,
-    source: &mut S,
-    sink: &mut K,
-) -> Outcome
-    // Without a fault all was read, replayed and written; after a write fault a front was written.
-    ensures done { result.fault ≡ None → (form : Asks) × (words.now ≡ words_of form)
-        × HasRun form (S.left source.old) (S.left source.new) result.report (Appends (K.written sink.old) (K.written sink.new)) }
-    ensures cut_off { result.fault ≡ Some Fault.WriteFault → (form : Asks) × (words.now ≡ words_of form)
-        × HasRun form (S.left source.old) (S.left source.new) result.report (AppendsPrefix (K.written sink.old) (K.written sink.new)) }
-
-    // The causes of the faults.
-    ensures usage { (result.fault ≡ Some Fault.Usage) ↔ AreNoForm words.now }
-    ensures read_fault { result.fault ≡ Some Fault.ReadFault → Rose (S.faults source.old) (S.faults source.new) }
-    ensures write_fault { result.fault ≡ Some Fault.WriteFault → Rose (K.faults sink.old) (K.faults sink.new) }
-    ensures decides { (f : Faulty) → result.fault ≡ Some f → IsOfText f → WasSo (DecidesOn f) (S.left source.old) }
-
-    // Where nothing outside failed and memory was not wanting, a script is done, and another text has its fault.
-    ensures complete { (form : Asks) → words.now ≡ words_of form → TellsSo LooksLikeScript (S.left source.old) →
-        (Rose (S.faults source.old) (S.faults source.new) → ⊥) → (Rose (K.faults sink.old) (K.faults sink.new) → ⊥) →
-        (result.fault ≡ None) ⊎ (result.fault ≡ Some Fault.Memory) }
-    ensures exact { (form : Asks) (f : Faulty) → words.now ≡ words_of form → TellsSo (DecidesOn f) (S.left source.old) →
-        (Rose (S.faults source.old) (S.faults source.new) → ⊥) → (Rose (K.faults sink.old) (K.faults sink.new) → ⊥) →
-        (result.fault ≡ Some f) ⊎ (result.fault ≡ Some Fault.Memory) }
-
-    // After every other fault there is no report, and the sink is as it was. Other words read nothing.
-    ensures refused { (f : Faulty) → result.fault ≡ Some f → f ≢ Fault.WriteFault → (result.report ≡ None) × (sink.new ≡ sink.old) }
-    ensures unread { result.fault ≡ Some Fault.Usage → source.new ≡ source.old }
-
-    ensures status { result.status ≡ status_of result.fault }
-{
-    match form_of(words) {
-        None => refused(Fault::Usage),
-        Some(Form::Replay { receipts }) => replay_to(alloc, receipts, source, sink),
-        Some(Form::Plain { .. }) => run_plain(alloc, words, source, sink),
-        Some(Form::Check) => run_plain(alloc, words, source, sink),
     }
 }

@@ -1,8 +1,13 @@
+mod meeting;
+
 use crate::{Fault, Outcome, run, run_plain};
-use outside::{ArgList, MemSink, MemSource};
+use hook_engine::NoTally;
+use outside::{ArgList, MemSink, MemSource, NoGate};
 use script_text::Which;
 use std::alloc::{AllocError, Global};
+use std::sync::Wait;
 use std::test::Fail;
+use std::thread::Threads;
 
 const ONE_PACKET: &[u8] = b"netacct 1\nsection\nlane\nin 10050 0 2 4 60 -\n";
 
@@ -100,28 +105,39 @@ fn words(alloc: Global, all: &[&str]) -> Result<ArgList, AllocError> {
 
 // What `replay` comes to on a script that is read in pieces of so many bytes, and what it writes in pieces of 16.
 // The calls of these numbers fail.
-fn replay_in_pieces(
+fn replay_in_pieces<R: Threads + Wait + Sync>(
+    rt: &R,
     alloc: Global,
     script: &[u8],
     piece: usize,
     failing_read: u64,
     failing_write: u64,
 ) -> Result<(Outcome, MemSink), AllocError> {
+    let words = words(alloc, &["replay"])?;
     // A source gives a byte at a time at least.
     let mut source = MemSource::new(alloc, script, piece.max(1), &[failing_read])?;
     let mut sink = MemSink::new(alloc, 4_096, 16, &[failing_write])?;
-    let outcome = run(alloc, &words(alloc, &["replay"])?, &mut source, &mut sink);
+    let outcome = run(
+        rt,
+        alloc,
+        &words,
+        &mut source,
+        &mut sink,
+        &NoGate,
+        &mut NoTally,
+    );
     Ok((outcome, sink))
 }
 
 // The same with pieces of 10 bytes.
-fn replay(
+fn replay<R: Threads + Wait + Sync>(
+    rt: &R,
     alloc: Global,
     script: &[u8],
     failing_read: u64,
     failing_write: u64,
 ) -> Result<(Outcome, MemSink), AllocError> {
-    replay_in_pieces(alloc, script, 10, failing_read, failing_write)
+    replay_in_pieces(rt, alloc, script, 10, failing_read, failing_write)
 }
 
 #[test]
@@ -132,7 +148,7 @@ fn scripts_are_replayed(rt: HostRuntime) -> Result<(), Fail> {
         (ONE_PACKET, ONE_PACKET_DUMP),
     ];
     for (script, dump) in cases {
-        let (outcome, sink) = replay(rt.alloc(), script, 0, 0)?;
+        let (outcome, sink) = replay(&rt, rt.alloc(), script, 0, 0)?;
         assert_eq!(rt; (outcome.status, outcome.fault), (0, None));
         assert!(rt; outcome.report.is_some());
         assert_eq!(rt; sink.written(), dump);
@@ -144,7 +160,7 @@ fn scripts_are_replayed(rt: HostRuntime) -> Result<(), Fail> {
 #[test]
 fn pieces_change_nothing(rt: HostRuntime) -> Result<(), Fail> {
     for piece in [1, 7, 4_096] {
-        let (outcome, sink) = replay_in_pieces(rt.alloc(), FOUR_LANES, piece, 0, 0)?;
+        let (outcome, sink) = replay_in_pieces(&rt, rt.alloc(), FOUR_LANES, piece, 0, 0)?;
         assert_eq!(rt; (outcome.status, outcome.fault), (0, None));
         assert_eq!(rt; sink.written(), FOUR_LANES_DUMP);
     }
@@ -154,7 +170,7 @@ fn pieces_change_nothing(rt: HostRuntime) -> Result<(), Fail> {
 #[test]
 fn a_failed_read_leaves_the_sink_empty(rt: HostRuntime) -> Result<(), Fail> {
     for piece in [1, 7, 10] {
-        let (outcome, sink) = replay_in_pieces(rt.alloc(), ONE_PACKET, piece, 3, 0)?;
+        let (outcome, sink) = replay_in_pieces(&rt, rt.alloc(), ONE_PACKET, piece, 3, 0)?;
         assert_eq!(rt;
             (outcome.status, outcome.fault),
             (3, Some(Fault::ReadFault))
@@ -168,7 +184,7 @@ fn a_failed_read_leaves_the_sink_empty(rt: HostRuntime) -> Result<(), Fail> {
 #[test]
 fn a_failed_write_leaves_a_front_of_the_dump(rt: HostRuntime) -> Result<(), Fail> {
     for piece in [1, 7, 4_096] {
-        let (outcome, sink) = replay_in_pieces(rt.alloc(), ONE_PACKET, piece, 0, 2)?;
+        let (outcome, sink) = replay_in_pieces(&rt, rt.alloc(), ONE_PACKET, piece, 0, 2)?;
         assert_eq!(rt;
             (outcome.status, outcome.fault),
             (4, Some(Fault::WriteFault))
@@ -219,7 +235,7 @@ fn a_text_has_its_fault(rt: HostRuntime) -> Result<(), Fail> {
     ];
     for (script, status, fault) in cases {
         for piece in [1, 7, 4_096] {
-            let (outcome, sink) = replay_in_pieces(rt.alloc(), script, piece, 0, 0)?;
+            let (outcome, sink) = replay_in_pieces(&rt, rt.alloc(), script, piece, 0, 0)?;
             assert_eq!(rt; (outcome.status, outcome.fault), (status, Some(fault)));
             assert_eq!(rt; sink.written(), b"".as_slice());
         }
@@ -244,7 +260,16 @@ fn words_say_what_is_done(rt: HostRuntime) -> Result<(), Fail> {
     for (call, fault, written) in cases {
         let mut source = MemSource::new(alloc, ONE_PACKET, 10, &[])?;
         let mut sink = MemSink::new(alloc, 4_096, 16, &[])?;
-        let outcome = run(alloc, &words(alloc, call)?, &mut source, &mut sink);
+        let words = words(alloc, call)?;
+        let outcome = run(
+            &rt,
+            alloc,
+            &words,
+            &mut source,
+            &mut sink,
+            &NoGate,
+            &mut NoTally,
+        );
         assert_eq!(rt; outcome.fault, fault);
         assert_eq!(rt; sink.written(), written);
     }

@@ -1,0 +1,10 @@
+pub mod Progress
+pub mod Lanes
+pub mod Desks
+pub mod Sections
+pub mod Crews
+pub mod Working
+pub mod Seats
+pub mod Controls
+pub mod Roomy
+pub mod Between

@@ -1,0 +1,112 @@
+//! The top call: a script is replayed on an engine, or what the words ask for is done on this thread.
+
+ghost use Rattle.std.specs.Prelude.{◌≡◌, ◌≢◌, ◌⊎◌, ◌↔◌, Some, None};
+ghost use Rattle.std.specs.Io.KnownBytes.{Appends};
+ghost use Rattle.outside.specs.Outside.{Rose, AppendsPrefix};
+ghost use Rattle.replay_main.specs.declared.fault.Fault.{Fault as Faulty};
+ghost use Rattle.replay_main.specs.declared.words.Form.{Form as Asks};
+ghost use Rattle.replay_main.specs.declared.words.Form.TheVariants.{Replay};
+ghost use Rattle.replay_main.specs.Words.{words_of, AreNoForm};
+ghost use Rattle.replay_main.specs.Faults.{status_of};
+ghost use Rattle.replay_main.specs.Run.{HasRun, WasSo, TellsSo, DecidesOn, LooksLikeScript, IsOfText};
+
+use crate::fault::Fault;
+use crate::on_engine::replayed_on_engine;
+use crate::outcome::{Outcome, refused, run_plain};
+use crate::words::{Form, form_of};
+use dump_text::{DumpFault, write_dump};
+use hook_engine::Tally;
+use outside::{ArgList, Gate, Sink, Source};
+use std::alloc::Global;
+use std::sync::Wait;
+use std::thread::Threads;
+
+/// Judges the script that a source has, replays it on an engine, and writes its dump.
+fn replay_to<R: Threads + Wait + Sync, S: Source, K: Sink, G: Gate, T: Tally>(
+    rt: &R,
+    alloc: Global,
+    receipts: bool,
+    source: &mut S,
+    sink: &mut K,
+    gate: &G,
+    tally: &mut T,
+) -> Outcome
+    ensures done { result.fault ≡ None → HasRun (Replay receipts) (S.left source.old) (S.left source.new) (T.told tally.old) (T.told tally.new) result.report (Appends (K.written sink.old) (K.written sink.new)) }
+    ensures cut_off { result.fault ≡ Some Fault.WriteFault → HasRun (Replay receipts) (S.left source.old) (S.left source.new) (T.told tally.old) (T.told tally.new) result.report (AppendsPrefix (K.written sink.old) (K.written sink.new)) }
+    ensures read_fault { result.fault ≡ Some Fault.ReadFault → Rose (S.faults source.old) (S.faults source.new) }
+    ensures write_fault { result.fault ≡ Some Fault.WriteFault → Rose (K.faults sink.old) (K.faults sink.new) }
+    ensures script { result.fault ≡ None → WasSo LooksLikeScript (S.left source.old) }
+    ensures usage { result.fault ≢ Some Fault.Usage }
+    ensures decides { (f : Faulty) → result.fault ≡ Some f → IsOfText f → WasSo (DecidesOn f) (S.left source.old) }
+    ensures refused { (f : Faulty) → result.fault ≡ Some f → f ≢ Fault.WriteFault → (result.report ≡ None) × (sink.new ≡ sink.old) }
+    ensures status { result.status ≡ status_of result.fault }
+{
+    let report = match replayed_on_engine(rt, alloc, source, gate, tally) {
+        Ok(report) => report,
+        Err(fault) => return refused(fault),
+    };
+    match write_dump(alloc, sink, &report, receipts) {
+        Ok(()) => Outcome {
+            status: 0,
+            fault: None,
+            report: Some(report),
+        },
+        Err(DumpFault::WriteFault) => Outcome {
+            status: Fault::WriteFault.status(),
+            fault: Some(Fault::WriteFault),
+            report: Some(report),
+        },
+        Err(DumpFault::Memory) => refused(Fault::Memory),
+    }
+}
+
+/// Does what the words ask for: with `replay` or `plain` it reads a script from the source to its end, replays it and
+/// writes its dump to the sink; with `check` it judges the script and writes its counts.
+///
+/// With `replay` the lanes of a section run side by side on an engine, beside its desk. The gate is told of each call,
+/// and the tally, once all sections ran, of what the engine's tables got. Such a run may wait, and its return is not
+/// promised; the others return. Want of memory is the one fault that needs no cause.
+pub fn run<R: Threads + Wait + Sync, S: Source, K: Sink, G: Gate, T: Tally>(
+    rt: &R,
+    alloc: Global,
+    words: &ArgList,
+    source: &mut S,
+    sink: &mut K,
+    gate: &G,
+    tally: &mut T,
+) -> Outcome
+    // Without a fault all was read, replayed and written; after a write fault a front was written.
+    ensures done { result.fault ≡ None → (form : Asks) × (words.now ≡ words_of form)
+        × HasRun form (S.left source.old) (S.left source.new) (T.told tally.old) (T.told tally.new) result.report (Appends (K.written sink.old) (K.written sink.new)) }
+    ensures cut_off { result.fault ≡ Some Fault.WriteFault → (form : Asks) × (words.now ≡ words_of form)
+        × HasRun form (S.left source.old) (S.left source.new) (T.told tally.old) (T.told tally.new) result.report (AppendsPrefix (K.written sink.old) (K.written sink.new)) }
+
+    // The causes of the faults.
+    ensures usage { (result.fault ≡ Some Fault.Usage) ↔ AreNoForm words.now }
+    ensures read_fault { result.fault ≡ Some Fault.ReadFault → Rose (S.faults source.old) (S.faults source.new) }
+    ensures write_fault { result.fault ≡ Some Fault.WriteFault → Rose (K.faults sink.old) (K.faults sink.new) }
+    ensures decides { (f : Faulty) → result.fault ≡ Some f → IsOfText f → WasSo (DecidesOn f) (S.left source.old) }
+
+    // Where nothing outside failed and memory was not wanting, a script is done, and another text has its fault.
+    ensures complete { (form : Asks) → words.now ≡ words_of form → TellsSo LooksLikeScript (S.left source.old) →
+        (Rose (S.faults source.old) (S.faults source.new) → ⊥) → (Rose (K.faults sink.old) (K.faults sink.new) → ⊥) →
+        (result.fault ≡ None) ⊎ (result.fault ≡ Some Fault.Memory) }
+    ensures exact { (form : Asks) (f : Faulty) → words.now ≡ words_of form → TellsSo (DecidesOn f) (S.left source.old) →
+        (Rose (S.faults source.old) (S.faults source.new) → ⊥) → (Rose (K.faults sink.old) (K.faults sink.new) → ⊥) →
+        (result.fault ≡ Some f) ⊎ (result.fault ≡ Some Fault.Memory) }
+
+    // After every other fault there is no report, and the sink is as it was. Other words read nothing.
+    ensures refused { (f : Faulty) → result.fault ≡ Some f → f ≢ Fault.WriteFault → (result.report ≡ None) × (sink.new ≡ sink.old) }
+    ensures unread { result.fault ≡ Some Fault.Usage → source.new ≡ source.old }
+
+    ensures status { result.status ≡ status_of result.fault }
+{
+    match form_of(words) {
+        None => refused(Fault::Usage),
+        Some(Form::Replay { receipts }) => replay_to(
+            rt, alloc, receipts, source, sink, gate, tally,
+        ),
+        Some(Form::Plain { .. }) => run_plain(alloc, words, source, sink),
+        Some(Form::Check) => run_plain(alloc, words, source, sink),
+    }
+}
