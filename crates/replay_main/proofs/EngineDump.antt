@@ -1,5 +1,5 @@
 -- The report of a replay on an engine has a dump.
-use Rattle.std.proofs.Common.{◌≡◌, ℕ, ◌≤◌, ◌*◌, length, sym, ap, subst, ◌∙◌, arith}
+use Rattle.std.proofs.Common.{◌≡◌, length, sym, ap, subst, arith}
 use Rattle.std.specs.Prelude.{flat_map}
 use Rattle.acct_base.specs.declared.amount.Amount.{Amount}
 use Rattle.acct_base.specs.Amounts.{IsAtMost, amount_at}

@@ -1,8 +1,7 @@
 -- A new engine's crew did nothing yet.
-use Rattle.std.proofs.Common.{◌≡◌, ℕ, ◌+◌, List, [], sym, ap, subst, ◌∙◌, arith}
+use Rattle.std.proofs.Common.{◌≡◌, ℕ, [], sym, ap, subst, ◌∙◌, arith}
 use Rattle.acct_base.specs.declared.amount.Amount.{Amount}
 use Rattle.acct_base.specs.declared.sizes.Sizes.{Sizes}
-use Rattle.acct_base.specs.declared.register.Write.{Write}
 use Rattle.acct_base.specs.Amounts.{IsAtMost, zero_amount}
 use Rattle.acct_base.specs.Sums.{added}
 use Rattle.desk_core.specs.Book.{BookView}
@@ -11,7 +10,7 @@ use Rattle.reg_words.specs.Seats.{WriterState}
 use Rattle.grace_rows.specs.Seats.{CollectState}
 use Rattle.total_rows.specs.Seats.{SeatState, known}
 use Rattle.hook_engine.specs.Passes.{Pass, fresh}
-use Rattle.hook_engine.specs.Tables.{Tables, EngineState, PassState, AreSeatsOf}
+use Rattle.hook_engine.specs.Tables.{EngineState, PassState, AreSeatsOf}
 use Rattle.desk_regs.specs.Desks.{DeskState, IsLevel as IsLevelDesk}
 use Rattle.collector.specs.Collectors.{CollectorState, Gathered, IsLevel, gathered_by}
 use Rattle.lanes.specs.declared.crew.Crew.{Crew}

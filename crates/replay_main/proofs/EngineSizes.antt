@@ -1,5 +1,5 @@
 -- The sizes of a script's header are those of an engine.
-use Rattle.std.proofs.Common.{◌≡◌, ℕ, ◌≤◌, List, [], ◌∷◌, ◌++◌, map, sym, ap, subst, ◌∙◌, arith}
+use Rattle.std.proofs.Common.{◌≡◌, ℕ, List, [], ◌∷◌, ◌++◌, map, sym, ap, subst, ◌∙◌, arith}
 use Rattle.std.specs.List.{AllByRecursion}
 use Rattle.acct_base.specs.declared.sizes.Sizes.{Sizes}
 use Rattle.acct_base.specs.Ranges.{AreSizes}

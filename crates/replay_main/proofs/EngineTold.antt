@@ -1,15 +1,11 @@
 -- What a tally is told is what the report says.
-use Rattle.std.proofs.Common.{◌≡◌, ℕ, ◌+◌, ◌≤◌, List, [], ◌∷◌, ◌++◌, length, map, sym, ap, subst, ◌∙◌, arith, Bool, true, false, append_assoc, append-nil}
-use Rattle.std.specs.Prelude.{flat_map, if◌then◌else◌, ◌&&◌}
+use Rattle.std.proofs.Common.{◌≡◌, ℕ, List, [], ◌∷◌, ◌++◌, sym, ap, ◌∙◌, append_assoc, append-nil}
+use Rattle.std.specs.Prelude.{flat_map}
 use Rattle.std.proofs.lemmas.Grind.{flat_map-append}
 use Rattle.acct_base.specs.declared.register.Key.{Key}
 use Rattle.acct_base.specs.declared.register.Seen.{Seen}
-use Rattle.acct_base.specs.declared.register.Write.{Write}
 use Rattle.acct_base.specs.declared.sizes.Sizes.{Sizes}
-use Rattle.acct_base.specs.declared.sizes.RegSizes.{RegSizes}
 use Rattle.acct_base.specs.Receipts.{charges, app_adds, iface_adds}
-use Rattle.desk_core.specs.declared.command.Command.{Command}
-use Rattle.desk_core.specs.Commands.{reply, after_command, collects, is_done}
 use Rattle.shelf.specs.declared.report.SectionOut.{SectionOut}
 use Rattle.captures.specs.Calls.{SectionCalls}
 use Rattle.captures.specs.Honest.{section_pairs, all_pairs}

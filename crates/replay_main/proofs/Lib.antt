@@ -1,4 +1,6 @@
 pub mod WordLists
+pub mod Totals
+pub mod Copying
 pub mod Cutting
 pub mod Counting
 pub mod Judging

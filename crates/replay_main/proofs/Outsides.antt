@@ -1,13 +1,14 @@
 -- What was read of a source, and what is true of it.
-use Rattle.std.proofs.Common.{◌≡◌, ◌⊎◌, ℕ, List, ◌++◌, take, refl, sym, ap, subst, ◌∙◌, arith, inl, inr, Option, Some, None, append-nil, Bool, ◌≢◌, Result, Err, IsErrOf, IfSome, IfNone}
+use Rattle.std.proofs.Common.{◌≡◌, ◌⊎◌, ℕ, List, ◌++◌, take, refl, sym, ap, subst, ◌∙◌, arith, inl, inr, Option, Some, None, append-nil, ◌≢◌, Result, Err, IsErrOf, IfSome, IfNone}
 use Rattle.std.proofs.lemmas.List.{take_all}
 use Rattle.hook_engine.specs.Ends.{Told}
+use Rattle.outside.specs.Generated.{generated}
 use Rattle.script_text.specs.declared.limits.Counts.{Counts}
 use Rattle.shelf.specs.declared.report.Report.{Report}
 use Rattle.replay_main.specs.declared.fault.Fault.{Fault}
 use Rattle.replay_main.specs.declared.fault.Fault.TheVariants as fault
 use Rattle.replay_main.specs.declared.words.Form.{Form}
-use Rattle.replay_main.specs.declared.words.Form.TheVariants.{Replay, Plain, Check}
+use Rattle.replay_main.specs.declared.words.Form.TheVariants.{Replay, Plain, Check, Gen, Bulk}
 use Rattle.replay_main.specs.Judged.{IsScriptText}
 use Rattle.replay_main.specs.Judgements.{ScriptHasNoFault, OneFault}
 use Rattle.replay_main.specs.Reached.{IsRead, IsPlain, IsCheckedAs}
@@ -38,9 +39,36 @@ plain_gives (Plain receipts) script before after None text plain h = absurd h
 plain_gives (Plain receipts) script before after (Some report) text plain h = h
 plain_gives Check script before after None text plain h = h
 plain_gives Check script before after (Some report) text plain h = absurd h
+plain_gives (Gen rounds) script before after None text plain h = h
+plain_gives (Gen rounds) script before after (Some report) text plain h = absurd h
+plain_gives (Bulk rounds) script before after report text plain h = absurd plain
 
 pub plain_run : (form : Form) (was now : Option (List ℕ)) (before after : Option Told) (report : Option Report) (Writes : List ℕ → Type 0) → IsPlainForm form → HasRun form was now None None report Writes → HasRun form was now before after report Writes
 plain_run form was now before after report Writes plain h = record { script = h.script; read = h.read; text = h.text; gives = plain_gives form h.script before after report h.text plain h.gives; writes = h.writes }
+
+-- the generated script was written, or a front of it
+pub gen_run : (rounds : ℕ) (left : Option (List ℕ)) (before after : Option Told) (report : Option Report) (Writes : List ℕ → Type 0) → report ≡ None → Writes (generated rounds) → HasRun (Gen rounds) left left before after report Writes
+gen_run rounds left before after report Writes none wrote = record {
+  script = generated rounds;
+  read = (refl, refl);
+  text = generated rounds;
+  gives = subst (λ (r : Option Report). Gives (Gen rounds) (generated rounds) before after r (generated rounds)) (sym none) refl;
+  writes = wrote;
+}
+
+-- only a write may fail there
+pub gen_fault : (whole : Option Fault) (f : Fault) → (whole ≡ None) ⊎ (whole ≡ Some fault.WriteFault) → whole ≡ Some f → f ≡ fault.WriteFault
+gen_fault whole f (inl none) is = absurd (let a : None ≡ Some f = sym none ∙ is in cc)
+gen_fault whole f (inr wrote) is = let a : Some f ≡ Some fault.WriteFault = sym is ∙ wrote in cc
+
+-- what was read of a source that tells its bytes is what they were
+pub read_whole : (whole : List ℕ) (now : Option (List ℕ)) (text : List ℕ) → IsRead (Some whole) now text → text ≡ whole
+read_whole whole None text read = absurd read.read
+read_whole whole (Some rest) text read = sym (read.read ∙ ap (λ (r : List ℕ). text ++ r) read.end ∙ append-nil text)
+
+-- a script that was replayed is one, looked at as far as a text is
+pub generated_script : (now : Option (List ℕ)) (whole text : List ℕ) (report : Report) (before after : Option Told) → IsRead (Some whole) now text → IsReplayed text report before after → IsReplayed whole report before after
+generated_script now whole text report before after read is = subst (λ (t : List ℕ). IsReplayed t report before after) (read_whole whole now text read) is
 
 -- ---- which fault comes
 

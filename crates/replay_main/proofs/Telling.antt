@@ -1,37 +1,24 @@
 -- The walk's report has a dump: its sums fit in words of 64 bits, and deletions recorded of no app more than its total.
-use Rattle.std.proofs.Common.{◌≡◌, ℕ, zero, suc, ◌+◌, ◌*◌, ◌≤◌, List, [], ◌∷◌, ◌++◌, length, refl, sym, ap, subst, ◌∙◌, arith, Option, Some, None, Bool, true, false, length-append}
-use Rattle.std.specs.Prelude.{◌==◌, ◌&&◌, ◌||◌, not, nat_lt, if◌then◌else◌, cond, slice_get, filter}
+use Rattle.std.proofs.Common.{◌≡◌, ℕ, ◌+◌, ◌*◌, ◌≤◌, List, [], ◌∷◌, ◌++◌, length, sym, subst, arith, true, false, length-append}
+use Rattle.std.specs.Prelude.{◌&&◌, if◌then◌else◌}
 use Rattle.std.specs.List.{AllByRecursion}
-use Rattle.std.proofs.lemmas.Bool.Decides.{nat_tests}
 use Rattle.acct_base.specs.declared.amount.Amount.{Amount}
-use Rattle.acct_base.specs.declared.amount.Row.{Row}
-use Rattle.acct_base.specs.declared.amount.Snapshot.{Snapshot}
 use Rattle.acct_base.specs.declared.charge.Charge.{Charge}
 use Rattle.acct_base.specs.declared.label.Label.{Label}
-use Rattle.acct_base.specs.declared.packet.Family.{Family}
-use Rattle.acct_base.specs.declared.receipt.Mark.{Mark}
 use Rattle.acct_base.specs.declared.sizes.Sizes.{Sizes}
-use Rattle.acct_base.specs.Amounts.{IsAtMost, HasRoom, amount_at, amount_if, plus, same_label, total_by, zero_amount}
-use Rattle.acct_base.specs.Length.{scaled, IsChargeable}
-use Rattle.acct_base.specs.Ranges.{IsCallInRange, IsHookInRange}
-use Rattle.acct_base.specs.Receipts.{HookCall, Call, charge_to, charge_amount, charges, untagged, label}
-use Rattle.acct_base.specs.Receipts.Call.{Hook, Iface, Allow, Deny}
-use Rattle.acct_base.specs.Sums.{folded, lands_at}
-use Rattle.acct_base.proofs.SumLemmas.{amount_at-append, zero_plus}
-use Rattle.acct_base.proofs.Keys.{plus_zero}
+use Rattle.acct_base.specs.Amounts.{IsAtMost, HasRoom, amount_at}
+use Rattle.acct_base.specs.Ranges.{IsCallInRange}
+use Rattle.acct_base.specs.Receipts.{Call, charge_amount, charges}
+use Rattle.acct_base.specs.Sums.{folded}
 use Rattle.desk_core.specs.declared.command.Command.{Command}
 use Rattle.desk_core.specs.Commands.{reply, collects, is_done, after_command}
-use Rattle.shelf.specs.declared.shelf.Deletion.{Deletion}
-use Rattle.shelf.specs.Shelved.{Phases}
-use Rattle.shelf.specs.Phases.{is_deleted, deleted_app, snapshot_rows, kept_rows, IsShelved}
+use Rattle.shelf.specs.Phases.{deleted_app, kept_rows}
 use Rattle.captures.specs.Calls.{SectionCalls, Asked, IsSectionInRange, IsAskedInRange}
 use Rattle.captures.specs.Runs.{Past, nothing_yet}
 use Rattle.captures.proofs.Lists.{all_append}
-use Rattle.acct_plain.specs.Serial.{serial, serial_line, serial_receipt, after_call, after_desk_line, live_snapshot, ended_phase, with_phase, rows_from, walk_lane, walk_lanes, walk_desk, walk_section, walk_sections}
+use Rattle.acct_plain.specs.Serial.{serial, serial_line, after_call, after_desk_line, live_snapshot, ended_phase, with_phase, rows_from, walk_lane, walk_lanes, walk_desk, walk_section, walk_sections}
 use Rattle.acct_plain.specs.Kept.{IsSmall}
 use Rattle.acct_plain.specs.Walks.{calls_made, calls_of_sections}
-use Rattle.acct_plain.proofs.Holding.{IsBelow, sum_below}
-use Rattle.acct_plain.proofs.Keeping.{small_in}
 use Rattle.acct_plain.proofs.Sound.{IsSound, whole_phase, section_sound, none_sound}
 use Rattle.acct_plain.proofs.Tables.{phase_holds, totals_hold}
 use Rattle.dump_text.specs.Room.{SumsFit, AppsCoverDeletions}

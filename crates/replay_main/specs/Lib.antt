@@ -5,5 +5,6 @@ pub mod Incoming
 pub mod Reached
 pub mod Judgements
 pub mod Run
+pub mod Summary
 pub mod Replays
 pub mod OnEngine

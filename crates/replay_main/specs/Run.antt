@@ -13,14 +13,16 @@ use Rattle.shelf.specs.declared.report.Report.{Report}
 use Rattle.shelf.specs.Shown.{Shown, shown}
 use Rattle.acct_plain.specs.Serial.{serial}
 use Rattle.dump_text.specs.Dump.{dump}
+use Rattle.outside.specs.Generated.{generated}
 use Rattle.lanes.specs.Sections.{IsSerialSection}
 use Rattle.replay_main.specs.declared.fault.Fault.{Fault}
 use Rattle.replay_main.specs.declared.fault.Fault.TheVariants as fault
 use Rattle.replay_main.specs.declared.words.Form.{Form}
-use Rattle.replay_main.specs.declared.words.Form.TheVariants.{Replay, Plain, Check}
+use Rattle.replay_main.specs.declared.words.Form.TheVariants.{Replay, Plain, Check, Gen, Bulk}
 use Rattle.replay_main.specs.Judged.{IsJudged, Decides, IsScriptText, asked_of}
 use Rattle.replay_main.specs.Reached.{IsRead, IsPlain, IsCheckedAs}
 use Rattle.replay_main.specs.Replays.{IsTold}
+use Rattle.replay_main.specs.Summary.{summary}
 
 -- A tally was told of a report, where it tells what it is told.
 abbrev pub WasTold : Asked → Shown → Option Told → Option Told → Type 0
@@ -66,18 +68,33 @@ DecidesOn f text = Decides (looked_at text) f
 abbrev pub LooksLikeScript : List ℕ → Type 0
 LooksLikeScript text = IsScriptText (looked_at text)
 
+-- The text that a run of a form judges, where that is told: what its source had left, with `bulk` the generated script, and with `gen` none.
+abbrev pub judged_text : Form → Option (List ℕ) → Option (List ℕ)
+judged_text (Gen rounds) left = None
+judged_text (Bulk rounds) left = Some (generated rounds)
+judged_text _ left = left
+
+-- A run of a form came to its script: it read all that its source had, or the script was generated, and nothing was read.
+abbrev pub ComesTo : Form → Option (List ℕ) → Option (List ℕ) → List ℕ → Type 0
+ComesTo (Gen rounds) was now script = (script ≡ generated rounds) × (now ≡ was)
+ComesTo (Bulk rounds) was now script = (script ≡ generated rounds) × (now ≡ was)
+ComesTo _ was now script = IsRead was now script
+
 -- What a run of a form gives for a script, and has to write: for `replay` the report of a replay on an engine and its dump; for `plain`
--- that of the replay on one thread and its dump; for `check` the counts of the script.
+-- that of the replay on one thread and its dump; for `check` the counts of the script; for `gen` the script; for `bulk` the report of a
+-- replay on an engine and its summary.
 abbrev pub Gives : Form → List ℕ → Option Told → Option Told → Option Report → List ℕ → Type 0
 Gives (Replay receipts) script before after (Some report) text = IsReplayed script report before after × (text ≡ dump (shown report) receipts)
 Gives (Plain receipts) script before after (Some report) text = IsPlain script report × (text ≡ dump (shown report) receipts)
 Gives Check script before after None text = (counts : Counts) × IsCheckedAs script counts × (text ≡ check_text counts)
+Gives (Gen rounds) script before after None text = text ≡ script
+Gives (Bulk rounds) script before after (Some report) text = IsReplayed script report before after × (text ≡ summary rounds (shown report))
 Gives _ script before after _ text = ⊥
 
--- A run did what its words ask for: it read a script, which was all that its source had, told the tally, and wrote all of its text, or a front of it.
+-- A run did what its words ask for: it came to its script, told the tally, and wrote all of its text, or a front of it.
 pub record HasRun (form : Form) (was now : Option (List ℕ)) (before after : Option Told) (report : Option Report) (Writes : List ℕ → Type 0) : Type 0 where
   pub script : List ℕ
-  pub read : IsRead was now script
+  pub read : ComesTo form was now script
   pub text : List ℕ
   pub gives : Gives form script before after report text
   pub writes : Writes text

@@ -1,8 +1,10 @@
 //! The top call: a script is read from a source, judged and replayed, and its dump or its counts are written to a sink.
 #![tactic(auto)]
 
+mod bulk;
 mod check;
 mod fault;
+mod generate;
 mod incoming;
 mod laws;
 mod on_engine;
@@ -10,6 +12,7 @@ mod outcome;
 mod parts;
 mod replay;
 mod runs;
+mod summary;
 #[cfg(test)]
 mod tests;
 mod words;

@@ -2,21 +2,23 @@
 
 ghost use Rattle.std.specs.Prelude.{◌≡◌, ◌≢◌, ◌⊎◌, ◌↔◌, List, ℕ, Some, None, IfOk, IfErr, OnOk, IsErrOf, string_bytes};
 ghost use Rattle.std.specs.Io.KnownBytes.{Appends};
+ghost use Rattle.outside.specs.Generated.{generated};
 ghost use Rattle.outside.specs.Outside.{Rose, AppendsPrefix};
 ghost use Rattle.replay_main.specs.declared.fault.Fault.{Fault as Faulty};
 ghost use Rattle.replay_main.specs.declared.words.Form.{Form as Asks};
-ghost use Rattle.replay_main.specs.declared.words.Form.TheVariants.{Plain, Check};
-ghost use Rattle.replay_main.specs.Words.{words_of, IsPlainForm, AreNoPlainForm};
+ghost use Rattle.replay_main.specs.declared.words.Form.TheVariants.{Plain, Check, Gen};
+ghost use Rattle.replay_main.specs.Words.{AreRounds, AskFor, IsPlainForm, IsGenerated, AreNoPlainForm};
 ghost use Rattle.replay_main.specs.Faults.{status_of, IsJudgingFault};
 ghost use Rattle.replay_main.specs.Reached.{IsRead};
-ghost use Rattle.replay_main.specs.Run.{HasRun, Gives, WasSo, TellsSo, DecidesOn, LooksLikeScript, IsOfText, check_text};
+ghost use Rattle.replay_main.specs.Run.{HasRun, Gives, WasSo, TellsSo, DecidesOn, LooksLikeScript, IsOfText, judged_text, check_text};
 
 use crate::check::checked;
 use crate::fault::Fault;
+use crate::generate::write_generated;
 use crate::replay::replayed;
 use crate::words::{Form, form_of};
 use dump_text::{DumpFault, write_dump};
-use outside::{ArgList, Sink, Source, write_all};
+use outside::{ArgList, GenSource, Sink, Source, write_all};
 use script_text::Counts;
 use shelf::Report;
 use std::alloc::{AllocError, Global};
@@ -135,10 +137,31 @@ fn check_to<S: Source, K: Sink>(alloc: Global, source: &mut S, sink: &mut K) -> 
     }
 }
 
+/// Writes so many rounds of the generated script.
+fn gen_to<K: Sink>(rounds: u32, sink: &mut K) -> Outcome
+    requires rounds { AreRounds rounds }
+    ensures done { result.fault ≡ None → Appends (K.written sink.old) (K.written sink.new) (generated rounds) }
+    ensures cut_off { result.fault ≡ Some Fault.WriteFault → AppendsPrefix (K.written sink.old) (K.written sink.new) (generated rounds) }
+    ensures write_fault { result.fault ≡ Some Fault.WriteFault → Rose (K.faults sink.old) (K.faults sink.new) }
+    ensures faults { (result.fault ≡ None) ⊎ (result.fault ≡ Some Fault.WriteFault) }
+    ensures report { result.report ≡ None }
+    ensures status { result.status ≡ status_of result.fault }
+{
+    match write_generated(&mut GenSource::new(rounds), sink) {
+        Ok(()) => Outcome {
+            status: 0,
+            fault: None,
+            report: None,
+        },
+        Err(_) => refused(Fault::WriteFault),
+    }
+}
+
 /// Does what the words ask for that need no other thread: with `plain` it reads a script from the source to its end,
-/// replays it and writes its dump to the sink; with `check` it judges the script and writes its counts.
+/// replays it and writes its dump to the sink; with `check` it judges the script and writes its counts; with `gen` it
+/// reads nothing and writes the generated script.
 ///
-/// The words of `replay` are none of its words. Want of memory is the one fault that needs no cause.
+/// The words of `replay` and `bulk` are none of its words. Want of memory is the one fault that needs no cause.
 pub fn run_plain<S: Source, K: Sink>(
     alloc: Global,
     words: &ArgList,
@@ -146,28 +169,30 @@ pub fn run_plain<S: Source, K: Sink>(
     sink: &mut K,
 ) -> Outcome
     // Without a fault all was read, replayed and written; after a write fault a front was written.
-    ensures done { result.fault ≡ None → (form : Asks) × IsPlainForm form × (words.now ≡ words_of form)
+    ensures done { result.fault ≡ None → (form : Asks) × IsPlainForm form × AskFor words.now form
         × HasRun form (S.left source.old) (S.left source.new) None None result.report (Appends (K.written sink.old) (K.written sink.new)) }
-    ensures cut_off { result.fault ≡ Some Fault.WriteFault → (form : Asks) × IsPlainForm form × (words.now ≡ words_of form)
+    ensures cut_off { result.fault ≡ Some Fault.WriteFault → (form : Asks) × IsPlainForm form × AskFor words.now form
         × HasRun form (S.left source.old) (S.left source.new) None None result.report (AppendsPrefix (K.written sink.old) (K.written sink.new)) }
 
-    // The causes of the faults.
+    // The causes of the faults. With `gen` only a write may fail.
     ensures usage { (result.fault ≡ Some Fault.Usage) ↔ AreNoPlainForm words.now }
     ensures read_fault { result.fault ≡ Some Fault.ReadFault → Rose (S.faults source.old) (S.faults source.new) }
     ensures write_fault { result.fault ≡ Some Fault.WriteFault → Rose (K.faults sink.old) (K.faults sink.new) }
-    ensures decides { (f : Faulty) → result.fault ≡ Some f → IsOfText f → WasSo (DecidesOn f) (S.left source.old) }
+    ensures decides { (form : Asks) (f : Faulty) → AskFor words.now form → result.fault ≡ Some f → IsOfText f → WasSo (DecidesOn f) (judged_text form (S.left source.old)) }
+    ensures generates { (rounds : ℕ) → AskFor words.now (Gen rounds) → (result.fault ≡ None) ⊎ (result.fault ≡ Some Fault.WriteFault) }
 
     // Where nothing outside failed and memory was not wanting, a script is done, and another text has its fault.
-    ensures complete { (form : Asks) → IsPlainForm form → words.now ≡ words_of form → TellsSo LooksLikeScript (S.left source.old) →
+    ensures complete { (form : Asks) → IsPlainForm form → AskFor words.now form → TellsSo LooksLikeScript (judged_text form (S.left source.old)) →
         (Rose (S.faults source.old) (S.faults source.new) → ⊥) → (Rose (K.faults sink.old) (K.faults sink.new) → ⊥) →
         (result.fault ≡ None) ⊎ (result.fault ≡ Some Fault.Memory) }
-    ensures exact { (form : Asks) (f : Faulty) → IsPlainForm form → words.now ≡ words_of form → TellsSo (DecidesOn f) (S.left source.old) →
+    ensures exact { (form : Asks) (f : Faulty) → IsPlainForm form → AskFor words.now form → TellsSo (DecidesOn f) (judged_text form (S.left source.old)) →
         (Rose (S.faults source.old) (S.faults source.new) → ⊥) → (Rose (K.faults sink.old) (K.faults sink.new) → ⊥) →
         (result.fault ≡ Some f) ⊎ (result.fault ≡ Some Fault.Memory) }
 
-    // After every other fault there is no report, and the sink is as it was. Other words read nothing.
+    // After every other fault there is no report, and the sink is as it was. Other words read nothing, and `gen` reads nothing.
     ensures refused { (f : Faulty) → result.fault ≡ Some f → f ≢ Fault.WriteFault → (result.report ≡ None) × (sink.new ≡ sink.old) }
     ensures unread { result.fault ≡ Some Fault.Usage → source.new ≡ source.old }
+    ensures made { (form : Asks) → IsGenerated form → AskFor words.now form → source.new ≡ source.old }
 
     ensures status { result.status ≡ status_of result.fault }
 {
@@ -176,5 +201,7 @@ pub fn run_plain<S: Source, K: Sink>(
         Some(Form::Replay { .. }) => refused(Fault::Usage),
         Some(Form::Plain { receipts }) => plain_to(alloc, receipts, source, sink),
         Some(Form::Check) => check_to(alloc, source, sink),
+        Some(Form::Gen { rounds }) => gen_to(rounds, sink),
+        Some(Form::Bulk { .. }) => refused(Fault::Usage),
     }
 }

@@ -1,3 +1,5 @@
+mod beside;
+mod generated;
 mod meeting;
 
 use crate::{Fault, Outcome, run, run_plain};

@@ -1,4 +1,4 @@
-use Rattle.std.proofs.Common.{◌≡◌, ◌≤◌, ◌-◌, ℕ, List, Option}
+use Rattle.std.proofs.Common.{◌≤◌, ◌-◌, ℕ, List, Option}
 use Rattle.script_text.specs.declared.header.Header.{Header}
 use Rattle.replay_main.specs.OnEngine.{RanSoFar}
 use Rattle.replay_main.proofs.on_engine.run_all.Given as goal
