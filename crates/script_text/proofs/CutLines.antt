@@ -1,7 +1,8 @@
 -- Where a text is cut.
-use Rattle.std.proofs.Common.{◌≡◌, ◌⊎◌, ℕ, ◌+◌, ◌<◌, ◌≤◌, false, eqb, List, [], ◌∷◌, ◌++◌, length, take, drop, ◌-◌, refl, sym, ap, subst, ◌∙◌, append_assoc, arith, length-append, take-add, inl, inr}
+use Rattle.std.proofs.Common.{◌≡◌, ◌⊎◌, ℕ, ◌+◌, ◌<◌, ◌≤◌, ◌==◌, All, false, eqb, List, [], ◌∷◌, ◌++◌, length, take, drop, ◌-◌, refl, sym, ap, subst, ◌∙◌, append_assoc, arith, length-append, take-add, inl, inr}
 use Rattle.std.specs.Prelude.{codes}
-use Rattle.std.proofs.Math.Seq.{take-append_seam, drop-append_seam}
+use Rattle.std.proofs.Math.Seq.{take-append_seam, drop-append_seam, take-length}
+use Rattle.std.specs.List.{AllByRecursion}
 use Rattle.std.proofs.lemmas.List.Elements.{recursion_from_All}
 use Rattle.script_text.specs.Pieces.{Lacks}
 use Rattle.std.proofs.lemmas.List.{append-nil, length-take-le, length-drop, take-append-drop}
@@ -221,6 +222,77 @@ pub section_held : IsHeld (codes "section\n") 8
 section_held = (omega arith, record { front = codes "section\n"; whole = sym (append-nil (codes "section\n")); begins = refl; lacks = tt; lines = inr (codes "section", refl); uncut = section_uncut })
 
 -- ---- the search for a cut
+
+abbrev NoS : List ℕ → Type 0
+NoS bytes = AllByRecursion (λ b. (b == 115) ≡ false) bytes
+
+front_calm : (a b : List ℕ) → NoS (a ++ b) → NoS a
+front_calm [] b h = tt
+front_calm (x ∷ a) b h = (h.0, front_calm a b h.1)
+
+line_calm : (lines rest : List ℕ) → NoS (lines ++ 10 ∷ rest) → NoS (lines ++ 10 ∷ [])
+line_calm lines rest h = front_calm (lines ++ 10 ∷ []) rest (subst NoS (sym (append_assoc lines (10 ∷ []) rest)) h)
+
+s_within : (a b : List ℕ) → NoS (a ++ 115 ∷ b) → ⊥
+s_within [] b h = absurd (let e = h.0 in cc)
+s_within (x ∷ a) b h = s_within a b h.1
+
+-- lines that have no `s` make no cut
+calm_uncut : (bytes lines : List ℕ) → (bytes ≡ []) ⊎ EndsLine bytes → IsUncut bytes → NoS lines → IsUncut (bytes ++ lines)
+calm_uncut bytes lines before uncut calm (f, m, e) = elim (append_split bytes lines (f ++ 10 ∷ []) (codes "section\n" ++ m) (e ∙ sym (append_assoc f (10 ∷ []) (codes "section\n" ++ m)))) [
+  | inl (d, is, at) ↦ s_within d (codes "ection\n" ++ m) (subst NoS at calm)
+  | inr (d, is, at) ↦ elim (prefix word d m lines word_lacks at) [
+    | inl clean ↦ (let none = no_bytes bytes (f ++ 10 ∷ []) d is (line_ended d is) clean in s_within [] (codes "ection\n" ++ m) (subst NoS (sym (at ∙ ap (λ (t : List ℕ). t ++ lines) none)) calm))
+    | inr (more, line) ↦ uncut (f, more, is ∙ append_assoc f (10 ∷ []) d ∙ ap (λ (t : List ℕ). f ++ 10 ∷ t) line)
+  ]
+]
+  where
+    line_ended : (d : List ℕ) → bytes ≡ (f ++ 10 ∷ []) ++ d → EndsLine bytes
+    line_ended d is = elim before [
+      | inl empty ↦ absurd (omega (arith, ap length is, ap length empty, length-append (f ++ 10 ∷ []) d, length-append f (10 ∷ [])))
+      | inr ends ↦ ends
+    ]
+
+lines_end : (bytes lines : List ℕ) → (bytes ≡ []) ⊎ EndsLine bytes → (lines ≡ []) ⊎ EndsLine lines → (bytes ++ lines ≡ []) ⊎ EndsLine (bytes ++ lines)
+lines_end bytes lines before more = elim more [
+  | inl empty ↦ subst (λ (t : List ℕ). (t ≡ []) ⊎ EndsLine t) (sym (ap (λ (t : List ℕ). bytes ++ t) empty ∙ append-nil bytes)) before
+  | inr (g, ends) ↦ inr (bytes ++ g, ap (λ (t : List ℕ). bytes ++ t) ends ∙ sym (append_assoc bytes g (10 ∷ [])))
+]
+
+-- the lines that are skipped
+pub lines_skipped : (held piece behind rest : List ℕ) (line : ℕ) → ((seen : List ℕ) × (piece ≡ seen ++ behind) × IsOpen (held ++ seen) line [])
+    → ((lines : List ℕ) × (behind ≡ lines ++ rest) × ((lines ≡ []) ⊎ EndsLine lines) × NoS lines)
+    → (x : List ℕ) × (piece ≡ x ++ rest) × IsOpen (held ++ x) (length held + (length piece - length rest)) []
+lines_skipped held piece behind rest line (seen, is, h) (lines, more, ends, calm) =
+    let front = seen ++ lines in
+    let whole : piece ≡ front ++ rest = is ∙ ap (λ (t : List ℕ). seen ++ t) more ∙ sym (append_assoc seen lines rest) in
+    let all : held ++ front ≡ (held ++ seen) ++ lines = sym (append_assoc held seen lines) in
+    let closed : h.front ≡ held ++ seen = sym (append-nil h.front) ∙ sym h.whole in
+    let before : (held ++ seen ≡ []) ⊎ EndsLine (held ++ seen) = subst (λ (t : List ℕ). (t ≡ []) ⊎ EndsLine t) closed h.lines in (
+      front,
+      whole,
+      record {
+        front = held ++ front;
+        whole = sym (append-nil (held ++ front));
+        begins = omega (arith, length-append held front, ap length whole, length-append front rest);
+        lacks = tt;
+        lines = subst (λ (t : List ℕ). (t ≡ []) ⊎ EndsLine t) (sym all) (lines_end (held ++ seen) lines before ends);
+        uncut = subst IsUncut (sym all) (calm_uncut (held ++ seen) lines before h.uncut calm);
+      },
+    )
+
+-- the lines in front of bytes that have no `s`, and what is left behind them
+pub calm_lines : (bytes calm tail lines rest : List ℕ) → bytes ≡ calm ++ tail → All (λ b. (b == 115) ≡ false) calm → calm ≡ lines ++ 10 ∷ rest
+    → (x : List ℕ) × (bytes ≡ x ++ take (length bytes - (length lines + 1)) (drop (length lines + 1) bytes)) × ((x ≡ []) ⊎ EndsLine x) × NoS x
+calm_lines bytes calm tail lines rest is lacks at =
+    let front = lines ++ 10 ∷ [] in
+    let size : length front ≡ length lines + 1 = length-append lines (10 ∷ []) in
+    let whole : bytes ≡ front ++ (rest ++ tail) = is ∙ ap (λ (t : List ℕ). t ++ tail) at ∙ append_assoc lines (10 ∷ rest) tail ∙ sym (append_assoc lines (10 ∷ []) (rest ++ tail)) in
+    let left : drop (length lines + 1) bytes ≡ rest ++ tail = ap (λ (n : ℕ). drop n bytes) (sym size) ∙ ap (drop (length front)) whole ∙ drop-append_seam front (rest ++ tail) in
+    let few : length bytes - (length lines + 1) ≡ length (rest ++ tail) = omega (arith, size, ap length whole, length-append front (rest ++ tail)) in
+    let taken : take (length bytes - (length lines + 1)) (drop (length lines + 1) bytes) ≡ rest ++ tail =
+    ap (λ (n : ℕ). take n (drop (length lines + 1) bytes)) few ∙ ap (take (length (rest ++ tail))) left ∙ take-length (rest ++ tail) in
+    (front, whole ∙ ap (λ (t : List ℕ). front ++ t) (sym taken), inr (lines, refl), line_calm lines rest (subst NoS at (recursion_from_All (λ b. (b == 115) ≡ false) calm lacks)))
 
 pub lacks_feed : (text : List ℕ) → Lacks text 10 → NoFeed text
 lacks_feed text lacks = recursion_from_All (λ b. eqb b 10 ≡ false) text lacks

@@ -1,12 +1,14 @@
 //! A text that comes in pieces, cut into its parts.
 
-ghost use Rattle.std.specs.Prelude.{◌≡◌, ◌≤◌, ◌<◌, ◌++◌, ◌∷◌, [], ℕ, length, codes, IfOk, OnErr, IsTrue, IsFalse};
+ghost use Rattle.std.specs.Prelude.{◌≡◌, ◌⊎◌, ◌≤◌, ◌<◌, ◌++◌, ◌∷◌, [], List, ℕ, ◌==◌, false, length, codes, IfOk, IfSome, OnErr, IsTrue, IsFalse};
+ghost use Rattle.std.specs.List.{AllByRecursion};
 ghost use Rattle.script_text.specs.declared.cutter.Scan.TheVariants as scans;
-ghost use Rattle.script_text.specs.Cuts.{IsUncut, Feeds, IsHeld, CutsAt, IsCutOff};
+ghost use Rattle.script_text.specs.Cuts.{EndsLine, IsUncut, Feeds, IsHeld, CutsAt, IsCutOff};
 
-use crate::fields::{after, cut_line};
+use crate::fields::{after, cut_at, cut_line};
 use crate::words::is_same;
 use acct_base::ByteList;
+use memchr::memrchr;
 use std::alloc::{AllocError, Global};
 use std::marker::Model;
 use std::mem;
@@ -111,6 +113,31 @@ fn is_section(head: &[u8], text: &[u8]) -> bool
     }
 }
 
+// What stands before the last line feed, and what stands behind it.
+fn cut_last_line(bytes: &[u8]) -> Option<(&[u8], &[u8])>
+    ensures { IfSome result (λ p. bytes.now ≡ p.0.now ++ 10 ∷ p.1.now) }
+{
+    match memrchr(b'\n', bytes) {
+        None => None,
+        Some(at) => Some((&bytes[..at], &bytes[at + 1..])),
+    }
+}
+
+// Skips lines that cannot be the line `section`, since they have no `s`, and gives what stands behind them. The bytes
+// begin a line.
+fn behind_other_lines(bytes: &[u8]) -> &[u8]
+    ensures { (lines : List ℕ) × (bytes.now ≡ lines ++ result.now) × ((lines ≡ []) ⊎ EndsLine lines) × AllByRecursion (λ b. (b == 115) ≡ false) lines }
+{
+    let calm = match cut_at(b's', bytes) {
+        None => bytes,
+        Some((calm, _)) => calm,
+    };
+    match cut_last_line(calm) {
+        None => bytes,
+        Some((lines, _)) => &bytes[lines.len() + 1..],
+    }
+}
+
 // Looks for the first cut in a piece behind the bytes that are held, the last line of which begins here.
 fn find_cut(held: &[u8], line: usize, piece: &[u8]) -> Scan
     requires { IsHeld held.now line }
@@ -127,8 +154,8 @@ fn find_cut(held: &[u8], line: usize, piece: &[u8]) -> Scan
             return Scan::Cut(seen);
         }
         head = b"";
-        start = held.len() + seen;
-        rest = behind;
+        rest = behind_other_lines(behind);
+        start = held.len() + (piece.len() - rest.len());
     }
     Scan::Open(start)
 }
