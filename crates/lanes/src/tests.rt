@@ -1,5 +1,8 @@
 //! Sections of lanes beside a desk, and of one lane.
 
+mod deleting;
+
+ghost use Rattle.acct_base.specs.Ranges.{AreSizes};
 ghost use Rattle.std.specs.Prelude.{◌≡◌, ◌+◌, ◌≤◌, true, length, IfOk, IfSome};
 ghost use Rattle.script_text.specs.Parts.{IsSection};
 ghost use Rattle.lanes.specs.Crews.{IsReady};
@@ -38,12 +41,14 @@ const SMALL: Sizes = Sizes {
     calls: 20,
 };
 
-// An engine, and a crew of it.
-fn open(alloc: Global) -> Result<(Engine, Crew), AllocError>
-    ensures { IfOk result (λ t. IsReady t.0 t.1) }
+// An engine of these sizes, and a crew of it.
+fn open(alloc: Global, sizes: &Sizes) -> Result<(Engine, Crew), AllocError>
+    requires { AreSizes sizes.now }
+    ensures ready { IfOk result (λ t. IsReady t.0 t.1) }
+    ensures sizes { IfOk result (λ t. t.0.sizes ≡ sizes.now) }
 {
-    let (engine, pass, seats) = Engine::new(alloc, &SMALL)?;
-    let book = Book::new(alloc, &[], &SMALL.regs)?;
+    let (engine, pass, seats) = Engine::new(alloc, sizes)?;
+    let book = Book::new(alloc, &[], &sizes.regs)?;
     // Their limits are the book's.
     let _ = engine.regs();
     let DeskSeats {
@@ -145,7 +150,7 @@ fn fared(out: &Option<SectionOut>, lane: usize, place: usize) -> Option<(u64, Op
 #[test]
 fn lanes_run_beside_a_desk_and_then_one_alone(rt: HostRuntime) -> Result<(), Fail> {
     let alloc = rt.alloc();
-    let (engine, crew) = open(alloc)?;
+    let (engine, crew) = open(alloc, &SMALL)?;
     let lines =
         b"lane\nin 10050 77 2 4 60 -\nin 10050 0 2 4 60 -\nlane\nin 10051 0 2 4 60 -\ndesk\n\
 tag 1000 77 10060 7\ncollect\n";

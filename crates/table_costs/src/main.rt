@@ -1,8 +1,8 @@
 //! The program `table_costs`: it does one thing to a table very often, so that a clock outside can tell
 //! what it costs once. `bench/table_costs` is that clock.
 //!
-//! Its words are `SUBJECT SPREAD ROWS KEYS CALLS`. The subject is `charges`, `reads`, `adds` or
-//! `nothing`, and the spread `near` or `far`. A table of ROWS rows gets KEYS keys, and then CALLS calls
+//! Its words are `SUBJECT SPREAD ROWS KEYS CALLS`. The subject is `charges`, `reads`, `adds`,
+//! `hooks` or `nothing`, and the spread `near` or `far`. A table of ROWS rows gets KEYS keys, and then CALLS calls
 //! go to them in a scattered order. The line that it prints ends with a sum of what the calls gave, so
 //! that no call can be left out.
 #![tactic(auto)]
@@ -11,6 +11,7 @@ ghost use Rattle.std.specs.Prelude.{◌≡◌, ◌+◌, IfOk};
 
 mod adds;
 mod charges;
+mod hooks;
 mod keys;
 mod nothing;
 mod plan;
@@ -19,6 +20,7 @@ mod table;
 
 use adds::Adds;
 use charges::Charges;
+use hooks::Hooks;
 use nothing::Nothing;
 use outside::ArgList;
 use plan::{Plan, Subject};
@@ -28,7 +30,7 @@ use std::process::ExitCode;
 use std::{env, io};
 use table::{Tally, all_turns};
 
-const USAGE: &str = "usage: table_costs charges|reads|adds|nothing near|far ROWS KEYS CALLS";
+const USAGE: &str = "usage: table_costs charges|reads|adds|hooks|nothing near|far ROWS KEYS CALLS";
 
 // The words that the program is called with, without its own name.
 fn words(rt: &HostRuntime) -> io::Result<ArgList> {
@@ -54,6 +56,10 @@ fn tally_of(alloc: Global, plan: &Plan) -> Result<Tally, AllocError>
         }
         Subject::Adds => {
             let mut table = Adds::new(alloc, plan)?;
+            Ok(all_turns(&mut table, plan))
+        }
+        Subject::Hooks => {
+            let mut table = Hooks::new(alloc, plan)?;
             Ok(all_turns(&mut table, plan))
         }
         Subject::Nothing => Ok(all_turns(&mut Nothing, plan)),

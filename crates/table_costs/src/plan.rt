@@ -14,6 +14,8 @@ pub enum Subject {
     Reads,
     /// A packet is added to a total.
     Adds,
+    /// An untagged packet is hooked: it is looked up, judged and counted.
+    Hooks,
     /// No table is touched, which shows what the order of the calls costs by itself.
     Nothing,
 }
@@ -24,6 +26,7 @@ impl Subject {
             "charges" => Some(Subject::Charges),
             "reads" => Some(Subject::Reads),
             "adds" => Some(Subject::Adds),
+            "hooks" => Some(Subject::Hooks),
             "nothing" => Some(Subject::Nothing),
             _ => None,
         }
@@ -35,6 +38,7 @@ impl Subject {
             Subject::Charges => "charges",
             Subject::Reads => "reads",
             Subject::Adds => "adds",
+            Subject::Hooks => "hooks",
             Subject::Nothing => "nothing",
         }
     }
@@ -44,7 +48,7 @@ impl Subject {
         ensures { result ≡ most_rows self }
     {
         match self {
-            Subject::Charges => 5_000,
+            Subject::Charges | Subject::Hooks => 5_000,
             Subject::Adds => 65_536,
             Subject::Reads | Subject::Nothing => 262_144,
         }
