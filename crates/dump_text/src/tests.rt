@@ -1,3 +1,8 @@
+mod conditions;
+mod dumps;
+mod parts;
+mod reports;
+
 use super::*;
 use acct_base::{IfaceReceipt, Label, LineReceipt, ListReceipt, Mark, Receipt, Seen, Verdict};
 use std::alloc::AllocError;
