@@ -1,9 +1,11 @@
 /* Preloaded into a program, this refuses one of its requests for memory: the one whose number, from 1, stands in
-   REFUSE. A thread that is to be made is a request too, since it needs a stack. When it refuses, it writes a byte to
-   file descriptor 3, so that whoever started the program knows that there was such a request. */
+   REFUSE; with a '+' behind the number, all later ones too. A thread that is to be made is a request as well, since it
+   needs a stack. When it refuses, it writes a byte to file descriptor 3, so that whoever started the program knows that
+   there was such a request. */
 #define _GNU_SOURCE
 #include <dlfcn.h>
 #include <errno.h>
+#include <limits.h>
 #include <pthread.h>
 #include <stdlib.h>
 #include <sys/mman.h>
@@ -16,16 +18,21 @@ extern void *__libc_calloc(size_t count, size_t size);
 extern void *__libc_realloc(void *old, size_t size);
 extern void *__libc_memalign(size_t alignment, size_t size);
 
-static unsigned long refused;
+static unsigned long first;
+static unsigned long last;
 static unsigned long requests;
 
 __attribute__((constructor)) static void begin(void) {
   const char *number = getenv("REFUSE");
-  if (number != NULL) refused = strtoul(number, NULL, 10);
+  char *rest;
+  if (number == NULL) return;
+  first = strtoul(number, &rest, 10);
+  last = *rest == '+' ? ULONG_MAX : first;
 }
 
 static int refuses(void) {
-  if (__atomic_add_fetch(&requests, 1, __ATOMIC_SEQ_CST) != refused) return 0;
+  unsigned long number = __atomic_add_fetch(&requests, 1, __ATOMIC_SEQ_CST);
+  if (number < first || number > last) return 0;
   if (write(3, "!", 1) != 1) _exit(99);
   errno = ENOMEM;
   return 1;
