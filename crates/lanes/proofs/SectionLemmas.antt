@@ -103,8 +103,9 @@ section_follows budget privileged sizes before calls after out crew w =
             subst (λ (ps : Phases). IsCollected ps (length before.gathered.phases + i) (record { command = c; before = before.pass.apps; through = after.pass.apps }) p) (sym same_phases) fact;
       };
       reads = ap (λ (x : Pass). x.reads) again.after_is ∙ g.reads ∙ (λ i. (met.after_is i).reads ++ flat_map recorded_reads pairs);
-      crew = record { sole = sole; level = subst IsLevel (sym w.met_again.gathered) end_level; known = w.met_again.met_apps.sole sole };
+      crew = record { sole = sole; level = subst IsLevel (sym w.met_again.gathered) end_level };
       left = omega (arith, end_left, left, start_left);
+      known = w.met_again.met_apps.sole sole;
       in_turn = λ s.
           let t = one_in_turn budget sizes w.start.pass w.end.pass calls.lanes out.lanes s.one (omega (arith, start_sole, sole_before)) w.went_on.lanes in record {
             land = subst (λ (x : Pass). LandInTurn sizes.rows x.charges (flat_map charges pairs)) met.after_is t.land;

@@ -1,8 +1,6 @@
 -- What a crew did so far.
 use Rattle.std.specs.Prelude.{ℕ, List}
 use Rattle.acct_base.specs.declared.register.Write.{Write}
-use Rattle.acct_base.specs.Amounts.{IsAtMost}
-use Rattle.acct_base.specs.Sums.{added}
 use Rattle.captures.specs.Runs.{Past}
 use Rattle.hook_engine.specs.Passes.{Pass, IsSole}
 use Rattle.collector.specs.Collectors.{Gathered, IsLevel}
@@ -23,8 +21,7 @@ past_of crew = record {
   ifaces = crew.pass.ifaces;
 }
 
--- Between two sections the crew has all calls of its engine. Its collector is level, and knows no more of an app than the crew added to it.
+-- Between two sections the crew has all calls of its engine, and its collector is level.
 pub record IsWhole (budget : ℕ) (crew : Progress) : Type 0 where
   pub sole : IsSole budget crew.pass
   pub level : IsLevel crew.gathered
-  pub known : (uid : ℕ) → IsAtMost (crew.gathered.known uid) (added crew.pass.apps uid)

@@ -2,8 +2,10 @@
 use Rattle.std.specs.Prelude.{◌≡◌, ℕ, ◌+◌, ◌≤◌, List, [], ◌∷◌, ◌++◌, length, flat_map}
 use mathlib.Core.Logic.{◌⊎◌}
 use Rattle.acct_base.specs.declared.sizes.Sizes.{Sizes}
+use Rattle.acct_base.specs.Amounts.{IsAtMost}
 use Rattle.acct_base.specs.Landings.{LandInTurn, AddInTurn}
 use Rattle.acct_base.specs.Receipts.{charges, app_adds, iface_adds}
+use Rattle.acct_base.specs.Sums.{added}
 use Rattle.shelf.specs.declared.report.SectionOut.{SectionOut}
 use Rattle.captures.specs.Calls.{SectionCalls}
 use Rattle.captures.specs.Honest.{section_pairs}
@@ -33,6 +35,8 @@ module _ (budget : ℕ) (privileged : List ℕ) (sizes : Sizes) where
     -- The crew is whole again, and spent one call of the budget for each packet.
     pub crew : IsWhole budget after
     pub left : before.pass.left ≡ after.pass.left + spent_by calls.lanes
+    -- The collector knows no more of an app than the crew added to it.
+    pub known : (uid : ℕ) → IsAtMost (after.gathered.known uid) (added after.pass.apps uid)
     -- Where nothing ran beside a lane, what it charged has the marks of a replay on one thread.
     pub in_turn : IsSerialSection calls → RanInTurn sizes (past_of before) calls out
 

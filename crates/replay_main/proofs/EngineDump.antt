@@ -12,7 +12,7 @@ use Rattle.lanes.specs.Progress.{past_of}
 use Rattle.replay_main.specs.Replays.{nothing_done, ReplayFits, ReplayCovers}
 use Rattle.replay_main.proofs.FewCharges.{LengthsAreCharged, AreSmall, all_few, all_small}
 use Rattle.replay_main.proofs.Summing.{shelved_at_most, rows_fit}
-use Rattle.replay_main.proofs.EngineEnds.{crew_ran, still_crew, fresh_crew, close_follows}
+use Rattle.replay_main.proofs.EngineEnds.{crew_ran, still_crew, still_known, fresh_crew, close_follows}
 
 pub replay_fits : LengthsAreCharged → ReplayFits
 replay_fits charged budget asked crew outs rest range few r = λ l.
@@ -38,8 +38,9 @@ at_most_through a b c h k = record {
 pub replay_covers : ReplayCovers
 replay_covers budget asked crew outs rest r =
     let k = still_crew budget asked.privileged asked.sizes (nothing_done budget) asked.sections crew outs r.ran (fresh_crew budget) in
+    let known = still_known budget asked.privileged asked.sizes asked.sections crew outs r.ran in
     let apps = r.closed.apps_are in
     record {
       ascend = apps.ascend;
-      recorded = λ uid. subst (λ (a : Amount). IsAtMost (deleted_app crew.gathered.phases uid) a) (sym (apps.amounts uid)) (at_most_through _ _ _ (k.level.recorded uid) (k.known uid));
+      recorded = λ uid. subst (λ (a : Amount). IsAtMost (deleted_app crew.gathered.phases uid) a) (sym (apps.amounts uid)) (at_most_through _ _ _ (k.level.recorded uid) (known uid));
     }

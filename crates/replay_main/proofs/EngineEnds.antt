@@ -13,7 +13,7 @@ use Rattle.shelf.specs.Shelved.{Phases}
 use Rattle.captures.specs.Calls.{SectionCalls}
 use Rattle.captures.specs.Honest.{IsHonest}
 use Rattle.acct_base.specs.Amounts.{IsAtMost, zero_amount}
-use Rattle.acct_base.specs.Sums.{HoldsPhase}
+use Rattle.acct_base.specs.Sums.{HoldsPhase, added}
 use Rattle.hook_engine.specs.Ends.{Rest, EngineClosed}
 use Rattle.shelf.specs.Phases.{IsShelved}
 use Rattle.collector.specs.Collectors.{IsLevel}
@@ -58,6 +58,10 @@ close_follows sizes crew rest level closed =
       ifaces_are = closed.ifaces_are;
     }
 
+-- The collector knows no more of an app than the crew added to it.
+abbrev KnowsNoMore : Progress → Type 0
+KnowsNoMore crew = (uid : ℕ) → IsAtMost (crew.gathered.known uid) (added crew.pass.apps uid)
+
 module _ (budget : ℕ) (privileged : List ℕ) (sizes : Sizes) where
   pub crew_ran : (before : Progress) (cs : List SectionCalls) (after : Progress) (os : List SectionOut) → CrewRan budget privileged sizes before cs after os →
       Ran privileged sizes.regs (past_of before) cs (past_of after) os
@@ -72,10 +76,24 @@ module _ (budget : ℕ) (privileged : List ℕ) (sizes : Sizes) where
   still_crew before (c ∷ cs) after [] h k = absurd h
   still_crew before (c ∷ cs) after (o ∷ os) h k = still_crew h.0 cs after os h.2 h.1.crew
 
+  known_on : (before : Progress) (cs : List SectionCalls) (after : Progress) (os : List SectionOut) → CrewRan budget privileged sizes before cs after os → KnowsNoMore before → KnowsNoMore after
+  known_on before [] after [] h k = subst KnowsNoMore h k
+  known_on before [] after (o ∷ os) h k = absurd h
+  known_on before (c ∷ cs) after [] h k = absurd h
+  known_on before (c ∷ cs) after (o ∷ os) h k = known_on h.0 cs after os h.2 h.1.known
+
 pub fresh_crew : (budget : ℕ) → IsWhole budget (nothing_done budget)
 fresh_crew budget =
     let none : IsAtMost zero_amount zero_amount = record { rx_packets = omega arith; rx_bytes = omega arith; tx_packets = omega arith; tx_bytes = omega arith } in
-    record { sole = omega arith; level = record { phase = refl; shelved = tt; recorded = λ uid. none }; known = λ uid. none }
+    record { sole = omega arith; level = record { phase = refl; shelved = tt; recorded = λ uid. none } }
+
+fresh_known : (budget : ℕ) → KnowsNoMore (nothing_done budget)
+fresh_known budget uid = record { rx_packets = omega arith; rx_bytes = omega arith; tx_packets = omega arith; tx_bytes = omega arith }
+
+-- after a replay's sections the collector knows no more of an app than the crew added to it
+pub still_known : (budget : ℕ) (privileged : List ℕ) (sizes : Sizes) (cs : List SectionCalls) (after : Progress) (os : List SectionOut) →
+    CrewRan budget privileged sizes (nothing_done budget) cs after os → KnowsNoMore after
+still_known budget privileged sizes cs after os h = known_on budget privileged sizes (nothing_done budget) cs after os h (fresh_known budget)
 
 pub replay_is_honest : RunIsHonest → ReplayIsHonest
 replay_is_honest honest budget asked crew outs rest r =

@@ -1,9 +1,7 @@
 -- A new engine's crew did nothing yet.
 use Rattle.std.proofs.Common.{◌≡◌, ℕ, [], sym, ap, subst, ◌∙◌, arith}
-use Rattle.acct_base.specs.declared.amount.Amount.{Amount}
 use Rattle.acct_base.specs.declared.sizes.Sizes.{Sizes}
-use Rattle.acct_base.specs.Amounts.{IsAtMost, zero_amount}
-use Rattle.acct_base.specs.Sums.{added}
+use Rattle.acct_base.specs.Amounts.{zero_amount}
 use Rattle.desk_core.specs.Book.{BookView}
 use Rattle.script_text.specs.declared.header.Header.{Header}
 use Rattle.reg_words.specs.Seats.{WriterState}
@@ -12,7 +10,7 @@ use Rattle.total_rows.specs.Seats.{SeatState, known}
 use Rattle.hook_engine.specs.Passes.{Pass, fresh}
 use Rattle.hook_engine.specs.Tables.{EngineState, PassState, AreSeatsOf}
 use Rattle.desk_regs.specs.Desks.{DeskState, IsLevel as IsLevelDesk}
-use Rattle.collector.specs.Collectors.{CollectorState, Gathered, IsLevel, gathered_by}
+use Rattle.collector.specs.Collectors.{CollectorState, IsLevel, gathered_by}
 use Rattle.lanes.specs.declared.crew.Crew.{Crew}
 use Rattle.replay_main.specs.OnEngine.{IsOpened}
 
@@ -28,7 +26,6 @@ opened_is h engine crew writer seat apps book sizes pass seats desk level collec
     let written : crew.desk.book.journal ≡ [] = ap (λ (d : DeskState). d.book.journal) desk ∙ journal in
     let gathered : gathered_by crew.collector ≡ record { phase = 0; given = []; known = λ uid. zero_amount; phases = [] } =
     ap gathered_by collector ∙ (λ i. record { phase = phase i; given = given i; known = λ uid. knows uid i; phases = [] }) in
-    let none : (a : Amount) → IsAtMost zero_amount a = λ a. record { rx_packets = omega arith; rx_bytes = omega arith; tx_packets = omega arith; tx_bytes = omega arith } in
     record {
       sizes = sizes;
       ready = record {
@@ -39,7 +36,6 @@ opened_is h engine crew writer seat apps book sizes pass seats desk level collec
         whole = record {
           sole = omega (arith, left, made, calls);
           level = even;
-          known = λ uid. subst (λ (g : Gathered). IsAtMost (g.known uid) (added crew.pass.has.apps uid)) (sym gathered) (none (added crew.pass.has.apps uid));
         };
         desk = level;
       };
