@@ -30,3 +30,8 @@ pub mod EngineDump
 pub mod EngineSizes
 pub mod EngineRan
 pub mod EngineOpens
+pub mod GeneratedLines
+pub mod GeneratedLimits
+pub mod GeneratedSections
+pub mod GeneratedScript
+pub mod InBulk

@@ -82,6 +82,10 @@ generated_too words f g a b is = generated_by f g (one_letter words f g a b) is
 pub no_gen : (words : List (List ℕ)) (rounds : ℕ) (g : Form) → AskFor words (Gen rounds) → AskFor words g → (letter_of g ≡ 103 → ⊥) → ⊥
 no_gen words rounds g a b other = other (sym (one_letter words (Gen rounds) g a b))
 
+-- words of `bulk` are those of no other form
+pub no_bulk : (words : List (List ℕ)) (rounds : ℕ) (g : Form) → AskFor words (Bulk rounds) → AskFor words g → (letter_of g ≡ 98 → ⊥) → ⊥
+no_bulk words rounds g a b other = other (sym (one_letter words (Bulk rounds) g a b))
+
 bulk_text : (a b : ℕ) (left : Option (List ℕ)) → IsInRange (Bulk a) → IsInRange (Bulk b) → words_of (Bulk a) ≡ words_of (Bulk b) → judged_text (Bulk a) left ≡ judged_text (Bulk b) left
 bulk_text a b left h k e =
     let same : decimal a ≡ decimal b = cc in

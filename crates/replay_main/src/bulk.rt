@@ -1,11 +1,9 @@
 //! The generated script, replayed on an engine, and its summary.
 
-ghost use Rattle.std.specs.Prelude.{◌≡◌, IfOk, IfErr, OnOk, IsErrOf, string_bytes};
+ghost use Rattle.std.specs.Prelude.{◌≡◌, IfOk, IfErr, string_bytes};
 ghost use Rattle.outside.specs.Generated.{generated};
 ghost use Rattle.shelf.specs.Shown.{shown};
-ghost use Rattle.replay_main.specs.declared.fault.Fault.{Fault as Faulty};
-ghost use Rattle.replay_main.specs.Faults.{IsJudgingFault};
-ghost use Rattle.replay_main.specs.Run.{DecidesOn, LooksLikeScript, IsOfText, IsReplayed};
+ghost use Rattle.replay_main.specs.Run.{IsReplayed};
 ghost use Rattle.replay_main.specs.Summary.{summary};
 ghost use Rattle.replay_main.specs.Words.{AreRounds};
 
@@ -19,7 +17,8 @@ use std::alloc::Global;
 use std::sync::Wait;
 use std::thread::Threads;
 
-/// Replays so many rounds of the generated script, and gives the report and its summary. It may wait.
+/// Replays so many rounds of the generated script, and gives the report and its summary. Nothing but memory can be
+/// wanting, since the text is a script. It may wait.
 pub fn replayed_in_bulk<R: Threads + Wait + Sync, G: Gate, T: Tally>(
     rt: &R,
     alloc: Global,
@@ -30,10 +29,7 @@ pub fn replayed_in_bulk<R: Threads + Wait + Sync, G: Gate, T: Tally>(
     requires rounds { AreRounds rounds }
     ensures report { IfOk result (λ t. IsReplayed (generated rounds) t.0 (T.told tally.old) (T.told tally.new)) }
     ensures line { IfOk result (λ t. string_bytes t.1 ≡ summary rounds (shown t.0)) }
-    ensures script { OnOk result (LooksLikeScript (generated rounds)) }
-    ensures decides { (f : Faulty) → IsErrOf result f → IsOfText f → DecidesOn f (generated rounds) }
-    ensures no_read_fault { IsErrOf result Fault.ReadFault → ⊥ }
-    ensures faults { IfErr result IsJudgingFault }
+    ensures memory { IfErr result (λ fault. fault ≡ Fault.Memory) }
 {
     let mut source = GenSource::new(rounds);
     let report = replayed_on_engine(rt, alloc, &mut source, gate, tally)?;

@@ -5,6 +5,7 @@ ghost use Rattle.captures.specs.Calls.{Asked, IsAskedInRange};
 ghost use Rattle.acct_plain.specs.Serial.{serial};
 ghost use Rattle.acct_plain.specs.Walks.{calls_of_sections};
 ghost use Rattle.dump_text.specs.Room.{SumsFit, AppsCoverDeletions};
+ghost use Rattle.replay_main.specs.Generated.{GeneratedIsScript};
 ghost use Rattle.replay_main.specs.Judgements.{ScriptHasNoFault, OneFault, ScriptIsReadOnce};
 ghost use Rattle.replay_main.specs.Replays.{ReplayIsHonest, ReplayIsTold, ReplayIsSerial, ReplayFits, ReplayCovers};
 
@@ -17,6 +18,12 @@ pub fn one_judgement()
     ensures script { ScriptHasNoFault }
     ensures fault { OneFault }
     ensures reading { ScriptIsReadOnce }
+{}
+
+/// Each generated script that may be asked for is a script within all limits, and its sections have their calls, in
+/// their ranges.
+pub fn generated_is_a_script()
+    ensures script { GeneratedIsScript }
 {}
 
 /// Where calls and commands are in their ranges, the walk's deletions record of no app more than its total, and the

@@ -18,7 +18,10 @@ mod tests;
 mod words;
 
 pub use fault::Fault;
-pub use laws::{one_judgement, replays_can_be_told, replays_on_engines, serial_can_be_told};
+pub use laws::{
+    generated_is_a_script, one_judgement, replays_can_be_told, replays_on_engines,
+    serial_can_be_told,
+};
 pub use outcome::{Outcome, run_plain};
 pub use runs::run;
 pub use words::{Form, form_of};

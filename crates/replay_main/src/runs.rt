@@ -2,7 +2,6 @@
 
 ghost use Rattle.std.specs.Prelude.{◌≡◌, ◌≢◌, ◌⊎◌, ◌↔◌, ℕ, List, Option, Some, None};
 ghost use Rattle.std.specs.Io.KnownBytes.{Appends};
-ghost use Rattle.outside.specs.Generated.{generated};
 ghost use Rattle.outside.specs.Outside.{Rose, AppendsPrefix};
 ghost use Rattle.replay_main.specs.declared.fault.Fault.{Fault as Faulty};
 ghost use Rattle.replay_main.specs.declared.words.Form.{Form as Asks};
@@ -74,11 +73,8 @@ fn bulk_to<R: Threads + Wait + Sync, K: Sink, G: Gate, T: Tally>(
     requires rounds { AreRounds rounds }
     ensures done { (left : Option (List ℕ)) → result.fault ≡ None → HasRun (Bulk rounds) left left (T.told tally.old) (T.told tally.new) result.report (Appends (K.written sink.old) (K.written sink.new)) }
     ensures cut_off { (left : Option (List ℕ)) → result.fault ≡ Some Fault.WriteFault → HasRun (Bulk rounds) left left (T.told tally.old) (T.told tally.new) result.report (AppendsPrefix (K.written sink.old) (K.written sink.new)) }
-    ensures no_read_fault { result.fault ≢ Some Fault.ReadFault }
+    ensures faults { (f : Faulty) → result.fault ≡ Some f → (f ≡ Fault.WriteFault) ⊎ (f ≡ Fault.Memory) }
     ensures write_fault { result.fault ≡ Some Fault.WriteFault → Rose (K.faults sink.old) (K.faults sink.new) }
-    ensures script { result.fault ≡ None → LooksLikeScript (generated rounds) }
-    ensures usage { result.fault ≢ Some Fault.Usage }
-    ensures decides { (f : Faulty) → result.fault ≡ Some f → IsOfText f → DecidesOn f (generated rounds) }
     ensures refused { (f : Faulty) → result.fault ≡ Some f → f ≢ Fault.WriteFault → (result.report ≡ None) × (sink.new ≡ sink.old) }
     ensures status { result.status ≡ status_of result.fault }
 {
@@ -122,12 +118,13 @@ pub fn run<R: Threads + Wait + Sync, S: Source, K: Sink, G: Gate, T: Tally>(
     ensures cut_off { result.fault ≡ Some Fault.WriteFault → (form : Asks) × AskFor words.now form
         × HasRun form (S.left source.old) (S.left source.new) (T.told tally.old) (T.told tally.new) result.report (AppendsPrefix (K.written sink.old) (K.written sink.new)) }
 
-    // The causes of the faults. With `gen` only a write may fail.
+    // The causes of the faults. With `gen` only a write may fail, and with `bulk` that or memory.
     ensures usage { (result.fault ≡ Some Fault.Usage) ↔ AreNoForm words.now }
     ensures read_fault { result.fault ≡ Some Fault.ReadFault → Rose (S.faults source.old) (S.faults source.new) }
     ensures write_fault { result.fault ≡ Some Fault.WriteFault → Rose (K.faults sink.old) (K.faults sink.new) }
     ensures decides { (form : Asks) (f : Faulty) → AskFor words.now form → result.fault ≡ Some f → IsOfText f → WasSo (DecidesOn f) (judged_text form (S.left source.old)) }
     ensures generates { (rounds : ℕ) → AskFor words.now (Gen rounds) → (result.fault ≡ None) ⊎ (result.fault ≡ Some Fault.WriteFault) }
+    ensures in_bulk { (rounds : ℕ) (f : Faulty) → AskFor words.now (Bulk rounds) → result.fault ≡ Some f → (f ≡ Fault.WriteFault) ⊎ (f ≡ Fault.Memory) }
 
     // Where nothing outside failed and memory was not wanting, a script is done, and another text has its fault.
     ensures complete { (form : Asks) → AskFor words.now form → TellsSo LooksLikeScript (judged_text form (S.left source.old)) →

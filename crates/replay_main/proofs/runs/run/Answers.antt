@@ -1,9 +1,11 @@
 use Rattle.std.proofs.Common.{rules, sym, subst, arith}
 use Rattle.replay_main.proofs.Outsides.{complete_run, exact_run, plain_run}
-use Rattle.replay_main.proofs.WordLists.{plain_too, usage_apart, same_text, generated_too, no_gen}
+use Rattle.replay_main.proofs.WordLists.{plain_too, usage_apart, same_text, generated_too, no_gen, no_bulk}
+use Rattle.replay_main.proofs.InBulk.{is_left, none_of_text, nothing_decides, bulk_is_done}
+use Rattle.replay_main.specs.declared.fault.Fault.TheVariants as fault
 use Rattle.replay_main.proofs.OneJudgement.{script_has_no_fault, one_fault}
 use Rattle.replay_main.specs.declared.words.Form.TheVariants.{Replay, Plain, Check, Gen, Bulk}
-use Rattle.replay_main.specs.Run.{WasSo, TellsSo, DecidesOn, LooksLikeScript, judged_text}
+use Rattle.replay_main.specs.Run.{WasSo, TellsSo, DecidesOn, LooksLikeScript}
 use Rattle.replay_main.specs.Words.{AskFor}
 use Rattle.replay_main.proofs.runs.run.Goals as goal
 
@@ -147,31 +149,23 @@ returns-in-Some-Bulk-clause-cut_off g c = λ is.
 pub returns-in-Some-Bulk-clause-usage : goal.returns-in-Some-Bulk-clause-usage
 returns-in-Some-Bulk-clause-usage g c =
     let asks : AskFor c.args.words.now (Bulk c.in-Some-Bulk.rounds) = search rules in
-    (λ is. absurd (c.bulk_to.ensures.usage is), λ none. absurd (none (Bulk c.in-Some-Bulk.rounds) asks))
+    (λ is. absurd (is_left fault.Usage (c.bulk_to.ensures.faults fault.Usage is)), λ none. absurd (none (Bulk c.in-Some-Bulk.rounds) asks))
 
 pub returns-in-Some-Bulk-clause-read_fault : goal.returns-in-Some-Bulk-clause-read_fault
-returns-in-Some-Bulk-clause-read_fault g c = λ is. absurd (c.bulk_to.ensures.no_read_fault is)
+returns-in-Some-Bulk-clause-read_fault g c = λ is. absurd (is_left fault.ReadFault (c.bulk_to.ensures.faults fault.ReadFault is))
 
 pub returns-in-Some-Bulk-clause-complete : goal.returns-in-Some-Bulk-clause-complete
 returns-in-Some-Bulk-clause-complete g c = λ form words tells unread unwritten.
-    let asks : AskFor c.args.words.now (Bulk c.in-Some-Bulk.rounds) = search rules in
-    let same = same_text c.args.words.now form (Bulk c.in-Some-Bulk.rounds) (g.S.Source.left c.args.source.now) words asks in
-    let e = c.bulk_to.ensures in
-    complete_run _ _ (judged_text (Bulk c.in-Some-Bulk.rounds) (g.S.Source.left c.args.source.now)) _ e.usage (λ is. absurd (e.no_read_fault is)) unread e.write_fault unwritten e.decides script_has_no_fault (subst (TellsSo LooksLikeScript) same tells)
+    bulk_is_done _ _ c.bulk_to.ensures.faults c.bulk_to.ensures.write_fault unwritten
 
 pub returns-in-Some-Bulk-clause-exact : goal.returns-in-Some-Bulk-clause-exact
 returns-in-Some-Bulk-clause-exact g c = λ form f words tells unread unwritten.
     let asks : AskFor c.args.words.now (Bulk c.in-Some-Bulk.rounds) = search rules in
     let same = same_text c.args.words.now form (Bulk c.in-Some-Bulk.rounds) (g.S.Source.left c.args.source.now) words asks in
-    let e = c.bulk_to.ensures in
-    exact_run _ _ (judged_text (Bulk c.in-Some-Bulk.rounds) (g.S.Source.left c.args.source.now)) _ e.usage (λ is. absurd (e.no_read_fault is)) unread e.write_fault unwritten e.decides script_has_no_fault one_fault f (subst (TellsSo (DecidesOn f)) same tells) e.script
+    absurd (nothing_decides c.in-Some-Bulk.rounds f asks.0 (subst (TellsSo (DecidesOn f)) same tells))
 
 pub returns-in-Some-Bulk-clause-decides : goal.returns-in-Some-Bulk-clause-decides
-returns-in-Some-Bulk-clause-decides g c = λ form f words is of.
-    let asks : AskFor c.args.words.now (Bulk c.in-Some-Bulk.rounds) = search rules in
-    let same = same_text c.args.words.now form (Bulk c.in-Some-Bulk.rounds) (g.S.Source.left c.args.source.now) words asks in
-    let e = c.bulk_to.ensures in
-    subst (WasSo (DecidesOn f)) (sym same) (e.decides f is of)
+returns-in-Some-Bulk-clause-decides g c = λ form f words is of. absurd (none_of_text f (is_left f (c.bulk_to.ensures.faults f is)) of)
 
 pub returns-in-Some-Bulk-clause-generates : goal.returns-in-Some-Bulk-clause-generates
 returns-in-Some-Bulk-clause-generates g c = λ rounds words.
@@ -180,3 +174,29 @@ returns-in-Some-Bulk-clause-generates g c = λ rounds words.
 
 pub returns-in-None-clause-generates : goal.returns-in-None-clause-generates
 returns-in-None-clause-generates g c = λ rounds words. absurd (c.in-None.ensures.none (Gen rounds) words)
+
+pub returns-in-Some-Bulk-clause-in_bulk : goal.returns-in-Some-Bulk-clause-in_bulk
+returns-in-Some-Bulk-clause-in_bulk g c = λ rounds f words is. c.bulk_to.ensures.faults f is
+
+pub returns-in-Some-Replay-clause-in_bulk : goal.returns-in-Some-Replay-clause-in_bulk
+returns-in-Some-Replay-clause-in_bulk g c = λ rounds f words is.
+    let asks : AskFor c.args.words.now (Replay c.in-Some-Replay.receipts) = search rules in
+    absurd (no_bulk c.args.words.now rounds (Replay c.in-Some-Replay.receipts) words asks (λ e. omega (arith, e)))
+
+pub returns-in-Some-Plain-clause-in_bulk : goal.returns-in-Some-Plain-clause-in_bulk
+returns-in-Some-Plain-clause-in_bulk g c = λ rounds f words is.
+    let asks : AskFor c.args.words.now (Plain c.in-Some-Plain.field-0-0) = search rules in
+    absurd (no_bulk c.args.words.now rounds (Plain c.in-Some-Plain.field-0-0) words asks (λ e. omega (arith, e)))
+
+pub returns-in-Some-Check-clause-in_bulk : goal.returns-in-Some-Check-clause-in_bulk
+returns-in-Some-Check-clause-in_bulk g c = λ rounds f words is.
+    let asks : AskFor c.args.words.now Check = search rules in
+    absurd (no_bulk c.args.words.now rounds Check words asks (λ e. omega (arith, e)))
+
+pub returns-in-Some-Gen-clause-in_bulk : goal.returns-in-Some-Gen-clause-in_bulk
+returns-in-Some-Gen-clause-in_bulk g c = λ rounds f words is.
+    let asks : AskFor c.args.words.now (Gen c.in-Some-Gen.field-0-0) = search rules in
+    absurd (no_bulk c.args.words.now rounds (Gen c.in-Some-Gen.field-0-0) words asks (λ e. omega (arith, e)))
+
+pub returns-in-None-clause-in_bulk : goal.returns-in-None-clause-in_bulk
+returns-in-None-clause-in_bulk g c = λ rounds f words is. absurd (c.in-None.ensures.none (Bulk rounds) words)
