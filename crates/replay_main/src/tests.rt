@@ -1,10 +1,11 @@
 mod beside;
+mod failing;
 mod generated;
 mod meeting;
 
 use crate::{Fault, Outcome, run, run_plain};
 use hook_engine::NoTally;
-use outside::{ArgList, MemSink, MemSource, NoGate};
+use outside::{ArgList, MemSink, MemSource, NoGate, Sink, Source};
 use script_text::Which;
 use std::alloc::{AllocError, Global};
 use std::sync::Wait;
@@ -105,6 +106,19 @@ fn words(alloc: Global, all: &[&str]) -> Result<ArgList, AllocError> {
     Ok(words)
 }
 
+// What a program comes to that is called with these words. Its gate holds nothing up, and its tally is told nothing.
+fn called<R: Threads + Wait + Sync, S: Source, K: Sink>(
+    rt: &R,
+    alloc: Global,
+    call: &[&str],
+    source: &mut S,
+    sink: &mut K,
+) -> Result<Outcome, AllocError> {
+    let words = words(alloc, call)?;
+    let outcome = run(rt, alloc, &words, source, sink, &NoGate, &mut NoTally);
+    Ok(outcome)
+}
+
 // What `replay` comes to on a script that is read in pieces of so many bytes, and what it writes in pieces of 16.
 // The calls of these numbers fail.
 fn replay_in_pieces<R: Threads + Wait + Sync>(
@@ -115,19 +129,10 @@ fn replay_in_pieces<R: Threads + Wait + Sync>(
     failing_read: u64,
     failing_write: u64,
 ) -> Result<(Outcome, MemSink), AllocError> {
-    let words = words(alloc, &["replay"])?;
     // A source gives a byte at a time at least.
     let mut source = MemSource::new(alloc, script, piece.max(1), &[failing_read])?;
     let mut sink = MemSink::new(alloc, 4_096, 16, &[failing_write])?;
-    let outcome = run(
-        rt,
-        alloc,
-        &words,
-        &mut source,
-        &mut sink,
-        &NoGate,
-        &mut NoTally,
-    );
+    let outcome = called(rt, alloc, &["replay"], &mut source, &mut sink)?;
     Ok((outcome, sink))
 }
 
@@ -262,16 +267,7 @@ fn words_say_what_is_done(rt: HostRuntime) -> Result<(), Fail> {
     for (call, fault, written) in cases {
         let mut source = MemSource::new(alloc, ONE_PACKET, 10, &[])?;
         let mut sink = MemSink::new(alloc, 4_096, 16, &[])?;
-        let words = words(alloc, call)?;
-        let outcome = run(
-            &rt,
-            alloc,
-            &words,
-            &mut source,
-            &mut sink,
-            &NoGate,
-            &mut NoTally,
-        );
+        let outcome = called(&rt, alloc, call, &mut source, &mut sink)?;
         assert_eq!(rt; outcome.fault, fault);
         assert_eq!(rt; sink.written(), written);
     }
