@@ -148,6 +148,9 @@ fn untroubled<R: Threads + Wait + Sync + Abort>(
     assert_eq!(rt; (done.outcome.status, done.outcome.fault), (0, None));
     assert!(rt; done.outcome.report.is_some());
     assert_eq!(rt; done.sink.written(), replay.dump);
+    // A call moves a piece at most.
+    assert!(rt; done.reads >= replay.script.len().div_ceil(PIECE) as u64);
+    assert!(rt; done.writes >= replay.dump.len().div_ceil(PIECE) as u64);
     Ok(done)
 }
 
