@@ -93,9 +93,9 @@ place-next k1 k2 turn rows l = one_more ∙ pick (p + 1 == rows) refl
     pick false e = let other : p + 1 < rows = grind (arith, e, below) in mod-eq_of_lt other
 
 -- in the words of the code
-pub first-is : (k1 k2 rows h r : ℕ) → 0 < rows → h ≡ hash k1 k2 → r ≡ rows → h / 4294967296 % r ≡ place k1 k2 0 rows
+pub first-is : (k1 k2 rows h : ℕ) → 0 < rows → h ≡ hash k1 k2 / 4294967296 → h % rows ≡ place k1 k2 0 rows
 unfolding home
-first-is k1 k2 rows h r l e f = (λ i. e i / 4294967296 % f i) ∙ sym (place-first k1 k2 rows l)
+first-is k1 k2 rows h l e = ap (λ z. z % rows) e ∙ sym (place-first k1 k2 rows l)
 
 pub place-by : (k1 k2 turn rows first : ℕ) → turn < rows → first ≡ place k1 k2 0 rows
     → (first + turn < rows → first + turn ≡ place k1 k2 turn rows) × (rows ≤ first + turn → first + turn - rows ≡ place k1 k2 turn rows)

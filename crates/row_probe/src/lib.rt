@@ -4,10 +4,12 @@
 mod keys;
 mod laws;
 mod places;
+mod rows;
 
 pub use keys::{pack1, pack2, unpack};
 pub use laws::{labels_pack_one_to_one, turns_give_each_place_once};
 pub use places::{first_place, next_place, place};
+pub use rows::Rows;
 
 #[cfg(test)]
 mod tests {
@@ -45,7 +47,17 @@ mod tests {
         ] {
             assert_eq!(rt; place(k1, k2, turn, rows), found, "at turn {turn}");
         }
-        assert_eq!(rt; first_place(k1, k2, 5_000), 4544);
+        assert_eq!(rt; first_place(k1, k2, &Rows::new(5_000)), 4544);
         assert_eq!(rt; next_place(4_999, 5_000), 0);
+    }
+
+    // The quotient of 3 by the reciprocal of 3, which is rounded down, is one too small.
+    #[test]
+    fn a_remainder_comes_without_a_division(rt: HostRuntime) {
+        let rows = Rows::new(3);
+        assert_eq!(rt; rows.count(), 3);
+        assert_eq!(rt; rows.remainder(2), 2);
+        assert_eq!(rt; rows.remainder(3), 0);
+        assert_eq!(rt; Rows::new(1).remainder(4_294_967_295), 0);
     }
 }

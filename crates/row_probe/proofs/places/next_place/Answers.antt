@@ -1,5 +1,5 @@
-use Rattle.std.proofs.Common.{◌≡◌, ℕ, ◌+◌, ◌<◌, ◌∙◌, sym, ap, arith}
-use Rattle.row_probe.proofs.Turns.{place-next, next-at, next-before}
+use Rattle.std.proofs.Common.{arith}
+use Rattle.row_probe.proofs.Turns.{next-at, next-before}
 use Rattle.row_probe.proofs.places.next_place.Goals as goal
 
 pub returns-then-place-rows-clause-follows : goal.returns-then-place-rows-clause-follows
