@@ -62,7 +62,7 @@ impl Totals {
         ensures totals { AreTotals self.rows seat.adds result.items }
         ensures sole { IsSole self seat }
     {
-        let Totals { table, plan } = self;
+        let Totals { table, plan, .. } = self;
         let TotalSeat { seat, .. } = seat;
         let closed = table.close_with(seat);
         let totals = collected(&closed, plan.rows, totals);

@@ -5,6 +5,7 @@ ghost use Rattle.std.specs.Prelude.{◌≡◌, ◌*◌, ◌≤◌, [], replicate
 use crate::plan::{Plan, Ruled, View};
 use crate::seat::TotalSeat;
 use atomic_table::Table;
+use row_probe::Rows;
 use std::alloc::{AllocError, Global};
 use std::marker::Model;
 
@@ -16,6 +17,8 @@ pub(crate) type TotalTable = Table<(), View, Plan, Ruled, Global>;
 pub struct Totals {
     pub(crate) table: TotalTable,
     pub(crate) plan: Plan,
+    // The rows of the plan, by which hashes are divided.
+    pub(crate) rows: Rows,
 }
 
 impl Model for Totals {
@@ -54,6 +57,7 @@ impl Totals {
             left: calls,
             made: 0,
         };
-        Ok((Totals { table, plan }, seat))
+        let rows = Rows::new(rows);
+        Ok((Totals { table, plan, rows }, seat))
     }
 }

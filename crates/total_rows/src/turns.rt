@@ -28,7 +28,7 @@ impl Totals {
     {
         Try {
             turn: 0,
-            row: first_place(code_of(key), 1, self.plan.rows),
+            row: first_place(code_of(key), 1, &self.rows),
         }
     }
 
