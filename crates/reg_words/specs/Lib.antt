@@ -1,6 +1,7 @@
 pub mod Counts
 pub mod Finds
 pub mod Journal
+pub mod MapRows
 pub mod Origins
 pub mod Places
 pub mod Registers

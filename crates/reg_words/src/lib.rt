@@ -9,6 +9,7 @@
 
 mod lifecycle;
 mod loads;
+mod map_rows;
 mod place;
 mod reader;
 mod reads;

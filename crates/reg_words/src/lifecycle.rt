@@ -3,6 +3,7 @@
 ghost use Rattle.std.specs.Prelude.{◌≡◌, ◌≤◌, [], length, IfOk, replicate, ◌<◌, ◌^◌};
 ghost use Rattle.acct_base.specs.Ranges.{AreRegSizes};
 
+use crate::map_rows::rows_by;
 use crate::place::total_of;
 use crate::reader::Reader;
 use crate::regs::Regs;
@@ -40,6 +41,7 @@ impl Regs {
         let words = Words {
             table,
             limits: *sizes,
+            map_rows: rows_by(sizes),
         };
         let writer = Writer {
             seat,

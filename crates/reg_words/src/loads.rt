@@ -12,13 +12,14 @@ ghost use Rattle.reg_words.specs.Rule.{Fronted, Probed, Missed, Registered, Met,
 ghost use Rattle.reg_words.specs.declared.view.Kind.TheVariants.{Writer as AsWriter, Reader as AsReader};
 ghost use Rattle.reg_words.specs.declared.view.Stage.TheVariants.{Idle, Found};
 
+use crate::map_rows::first_of;
 use crate::place::{Try, base_of, code_of, rows_of, total_of};
 use crate::steps::{LoadFront, LoadKey, LoadRegister, LoadValue};
 use crate::subject::Subject;
 use crate::view::TableSeat;
 use crate::words::Words;
 use acct_base::Key;
-use row_probe::{first_place, next_place};
+use row_probe::next_place;
 use std::marker::Brand;
 
 impl Words {
@@ -57,7 +58,7 @@ impl Words {
         let code = code_of(key);
         let rows = rows_of(&self.limits, key);
         let base = base_of(&self.limits, key);
-        let mut place = first_place(code, 1, rows);
+        let mut place = first_of(&self.limits, &self.map_rows, key);
         for turn in 0..rows {
             let at = Try {
                 turn,

@@ -2,10 +2,12 @@
 
 ghost use Rattle.std.specs.Prelude.{◌≡◌, ◌≢◌, ◌<◌, ◌^◌, length, MatchOption};
 ghost use Rattle.reg_words.specs.Finds.{IsFound};
+ghost use Rattle.reg_words.specs.MapRows.{AreRowsOf};
 ghost use Rattle.reg_words.specs.Places.{code, rows, base, total, spot, AllDecided};
 
+use crate::map_rows::{MapRows, first_of};
 use acct_base::{Key, RegSizes};
-use row_probe::{first_place, next_place, place};
+use row_probe::{next_place, place};
 
 /// A turn of a key's search, with the place that is tried at it.
 #[derive(Clone, Copy)]
@@ -77,7 +79,8 @@ pub fn spot_of(limits: &RegSizes, key: Key, turn: u32) -> u64
 }
 
 /// Where the key stands by the words of the places, or where it may. None where all its places are other keys'.
-pub fn find(limits: &RegSizes, places: &[u64], key: Key) -> Option<Spot>
+pub fn find(limits: &RegSizes, map_rows: &MapRows, places: &[u64], key: Key) -> Option<Spot>
+    requires counted { AreRowsOf limits.now map_rows.now }
     requires places { length places.now ≡ total limits.now }
     requires key { (code key ≢ 0) × (0 < rows limits.now key) }
     ensures { MatchOption result (AllDecided limits.now places.now key (rows limits.now key)) (λ s. IsFound limits.now places.now key s) }
@@ -85,7 +88,7 @@ pub fn find(limits: &RegSizes, places: &[u64], key: Key) -> Option<Spot>
     let code = code_of(key);
     let rows = rows_of(limits, key);
     let base = base_of(limits, key);
-    let mut place = first_place(code, 1, rows);
+    let mut place = first_of(limits, map_rows, key);
     for turn in 0..rows {
         // The loop's invariant speaks of the key.
         let _ = key;

@@ -43,7 +43,7 @@ impl Words {
         ensures room { IsSome result → AreKeysSpent self.now.limits seat.now.me.0.list key → ⊥ }
     {
         let _ = seat;
-        find(&self.limits, places, key)
+        find(&self.limits, &self.map_rows, places, key)
     }
 
     // Stores a write for which there is room.
