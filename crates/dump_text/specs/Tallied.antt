@@ -1,5 +1,5 @@
 -- The four counts of receipts as one record, which the code adds up.
-use Rattle.std.specs.Prelude.{ℕ, ◌+◌, Option, Some, None, List, [], ◌∷◌, length, codes, decimal, sum_by}
+use Rattle.std.specs.Prelude.{ℕ, ◌+◌, ◌<◌, ◌≤◌, ◌^◌, Option, Some, None, List, [], ◌∷◌, length, codes, decimal, sum_by}
 use Rattle.acct_base.specs.declared.receipt.LineReceipt.{LineReceipt}
 use Rattle.acct_base.specs.declared.verdict.Verdict.{Verdict}
 use Rattle.acct_base.specs.declared.verdict.Verdict.TheVariants.{Pass, Drop}
@@ -45,6 +45,17 @@ tally rs = record {
 -- Two tallies together.
 abbrev pub added : Tally → Tally → Tally
 added a b = record { calls = a.calls + b.calls; passed = a.passed + b.passed; dropped = a.dropped + b.dropped; full = a.full + b.full }
+
+-- Each count fits in a word of 64 bits.
+pub record TallyFits (t : Tally) : Type 0 where
+  pub calls : t.calls < 2 ^ 64
+  pub passed : t.passed < 2 ^ 64
+  pub dropped : t.dropped < 2 ^ 64
+  pub full : t.full < 2 ^ 64
+
+-- There are more than 2 ^ 62 of these receipts. With so many or fewer each count fits, since a receipt has three marks at most.
+abbrev pub AreTooMany : List (ℕ × LineReceipt) → Type 0
+AreTooMany rs = length rs ≤ 2 ^ 62 → ⊥
 
 -- The line of a tally.
 abbrev pub tally_text : Tally → List ℕ

@@ -27,8 +27,7 @@ impl Model for DumpRoom {
 }
 
 impl DumpRoom {
-    /// The room for the dump of a report. For no label may the sum of the report's rows pass its word. A
-    /// count that passes its word is told as a want of memory, which has long run out by then.
+    /// The room for the dump of a report. For no label may the sum of the report's rows pass its word.
     pub fn new(alloc: Global, report: &Report) -> Result<DumpRoom, AllocError>
         requires sums { SumsFit (shown report.now) }
         ensures { IfOk result (IsRoomOf (shown report.now)) }

@@ -1,9 +1,9 @@
 //! The counts of a dump's second line.
 
-ghost use Rattle.std.specs.Prelude.{◌≡◌, ◌≤◌, ◌++◌, ◌<◌, ◌^◌, IfOk};
+ghost use Rattle.std.specs.Prelude.{◌≡◌, ◌≤◌, ◌++◌, ◌<◌, ◌^◌, IfOk, OnErr};
 ghost use Rattle.std.specs.List.{flat_map};
 ghost use Rattle.dump_text.specs.Dump.{full_mark, receipts_of, section_receipts};
-ghost use Rattle.dump_text.specs.Tallied.{marks_tally, tally, added};
+ghost use Rattle.dump_text.specs.Tallied.{marks_tally, tally, added, TallyFits, AreTooMany};
 
 use acct_base::{Mark, Verdict};
 use shelf::{LineMarks, ReceiptList, Report, SectionOut};
@@ -56,10 +56,11 @@ fn marks_tally(marks: &LineMarks) -> Tally
     }
 }
 
-// Both together. Where a sum passes its word, memory for the receipts has long run out.
+// Both together, where each sum fits in its word.
 #[inline(always)]
 fn sum_of(a: Tally, b: Tally) -> Result<Tally, AllocError>
-    ensures { IfOk result (λ t. t ≡ added a b) }
+    ensures sum { IfOk result (λ t. t ≡ added a b) }
+    ensures fails { OnErr result (TallyFits (added a b) → ⊥) }
 {
     Ok(Tally {
         calls: a.calls.checked_add(b.calls).ok_or(AllocError)?,
@@ -70,7 +71,8 @@ fn sum_of(a: Tally, b: Tally) -> Result<Tally, AllocError>
 }
 
 fn lane_tally(lane: &ReceiptList) -> Result<Tally, AllocError>
-    ensures { IfOk result (λ t. t ≡ tally lane.now) }
+    ensures sum { IfOk result (λ t. t ≡ tally lane.now) }
+    ensures fails { OnErr result (AreTooMany lane.now) }
 {
     let mut sum = NONE;
     for place in 0..lane.len() {
@@ -83,7 +85,8 @@ fn lane_tally(lane: &ReceiptList) -> Result<Tally, AllocError>
 }
 
 fn section_tally(section: &SectionOut) -> Result<Tally, AllocError>
-    ensures { IfOk result (λ t. t ≡ tally (section_receipts section.now)) }
+    ensures sum { IfOk result (λ t. t ≡ tally (section_receipts section.now)) }
+    ensures fails { OnErr result (AreTooMany (section_receipts section.now)) }
 {
     let mut sum = NONE;
     for lane in section.lanes.as_slice() {
@@ -92,9 +95,11 @@ fn section_tally(section: &SectionOut) -> Result<Tally, AllocError>
     Ok(sum)
 }
 
-/// The tally of all receipts of a report.
+/// The tally of all receipts of a report. It fails only where they are more than 2^62, for which memory has long run
+/// out.
 pub fn report_tally(report: &Report) -> Result<Tally, AllocError>
-    ensures { IfOk result (λ t. t ≡ tally (receipts_of report.now.sections)) }
+    ensures sum { IfOk result (λ t. t ≡ tally (receipts_of report.now.sections)) }
+    ensures fails { OnErr result (AreTooMany (receipts_of report.now.sections)) }
 {
     let mut sum = NONE;
     for section in report.sections.as_slice() {

@@ -48,6 +48,7 @@ impl Words {
     }
 
     // Where the key stands. None where no write of the key is known; the read is then over.
+    #[inline(always)]
     pub(crate) fn probe(&self, seat: &mut TableSeat, key: Key) -> Option<Try>
         requires table { IsSeatOf self.now seat.old }
         requires reads { (seat.old.me.0.kind ≡ AsReader) × (seat.old.me.0.stage ≡ Idle) }

@@ -25,7 +25,9 @@ const NEVER_WRITTEN: Seen = Seen {
 };
 
 impl Words {
-    // Reads the key, by the loads of its places, its register and its value.
+    // Reads the key, by the loads of its places, its register and its value. Who calls it knows the kind of the
+    // key, so what the kinds differ in is settled there and not at each read.
+    #[inline(always)]
     fn look_up(&self, seat: &mut TableSeat, key: Key) -> Seen
         requires table { IsSeatOf self.now seat.old }
         requires reads { (seat.old.me.0.kind ≡ AsReader) × (seat.old.me.0.stage ≡ Idle) }
@@ -82,6 +84,7 @@ impl Regs {
     /// afterwards, 0 where there is none, and its value is what that write left. The reader then knows as many
     /// writes as the greater of what it knew and the version. Cookie(0) is never written: a read of it
     /// answers version 0, and is not counted among the reader's reads. It takes no memory and waits for nobody.
+    #[inline(always)]
     pub fn read(&self, r: &mut Reader, key: Key) -> Seen
         requires from { r.old.origin ≡ self.now }
         ensures from { r.new.origin ≡ r.old.origin }

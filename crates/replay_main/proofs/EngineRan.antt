@@ -25,7 +25,8 @@ use Rattle.shelf.specs.declared.report.Report.{Report}
 use Rattle.shelf.specs.Shown.{Shown, shown}
 use Rattle.captures.specs.Honest.{IsHonest}
 use Rattle.acct_plain.specs.Walks.{calls_made as plainly_made, calls_of_sections}
-use Rattle.dump_text.specs.Room.{SumsFit, AppsCoverDeletions}
+use Rattle.dump_text.specs.Room.{AppsCoverDeletions}
+use Rattle.replay_main.specs.Bounds.{SumsAreSmall, HonestSumsAreSmall}
 use Rattle.hook_engine.specs.Ends.{Rest, EngineClosed, EndedWhereTold, Told}
 use Rattle.hook_engine.specs.Passes.{spent}
 use Rattle.hook_engine.specs.Tables.{EngineState}
@@ -44,7 +45,7 @@ use Rattle.replay_main.specs.Incoming.{TakesPart, HasCome, SectionFails}
 use Rattle.replay_main.specs.OnEngine.{IsOpened, MayRun, SectionAdds, IsRunTo, RanSoFar, IsCallsFault}
 use Rattle.replay_main.specs.Reached.{IsWithin, IsRead}
 use Rattle.replay_main.specs.Judged.{asked_of}
-use Rattle.replay_main.specs.Replays.{nothing_done, report_of, HasReplayed, ReplayIsHonest, ReplayIsTold, ReplayIsSerial, ReplayFits, ReplayCovers}
+use Rattle.replay_main.specs.Replays.{nothing_done, report_of, HasReplayed, ReplayIsHonest, ReplayIsTold, ReplayIsSerial, ReplayCovers}
 use Rattle.replay_main.specs.Run.{WasSo, DecidesOn, IsOfText, IsReplayed, WasTold}
 use Rattle.replay_main.proofs.Arriving.{come_more, come_over, section_decides, calls_decide}
 use Rattle.replay_main.proofs.Counting.{hooks_counted, ending_counted}
@@ -242,12 +243,13 @@ module _ (text : List ℕ) (h : Header) (counts : Counts) (engine : EngineState)
       was_told (Some before) None e = absurd e
       was_told (Some before) (Some after) e = telling h.sizes.calls (asked_of h i.calls) (progress_of crew) outs rest before after has_replayed e
 
-  pub replayed_fits : ReplayFits → SumsFit (shown r)
+  pub replayed_small : HonestSumsAreSmall → ReplayIsHonest → SumsAreSmall (shown r)
   unfolding has_replayed
-  replayed_fits law =
+  replayed_small law honest =
+      let asked = asked_of h i.calls in
       let hooks = i.within.limits.hooks in
       let few = i.few in
-      subst SumsFit (sym shows) (law h.sizes.calls (asked_of h i.calls) (progress_of crew) outs rest i.ranges (omega (arith, hooks, few)) has_replayed)
+      law asked (shown r) i.ranges (omega (arith, hooks, few)) (subst (IsHonest asked) (sym shows) (honest h.sizes.calls asked (progress_of crew) outs rest has_replayed))
 
   pub replayed_covers : ReplayCovers → AppsCoverDeletions (shown r)
   unfolding has_replayed

@@ -6,9 +6,11 @@ pub mod Counting
 pub mod Judging
 pub mod Arriving
 pub mod Feeding
+pub mod Taking
 pub mod Coming
 pub mod FewCharges
 pub mod Summing
+pub mod SmallSums
 pub mod Telling
 pub mod LineFaults
 pub mod OneScript

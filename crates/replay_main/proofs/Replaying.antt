@@ -22,9 +22,10 @@ use Rattle.shelf.specs.Shown.{shown}
 use Rattle.captures.specs.Honest.{IsHonest}
 use Rattle.acct_plain.specs.Laws.{SerialIsHonest}
 use Rattle.acct_plain.specs.Serial.{serial, told}
-use Rattle.dump_text.specs.Room.{SumsFit, AppsCoverDeletions}
+use Rattle.dump_text.specs.Room.{AppsCoverDeletions}
 use Rattle.captures.specs.Calls.{Asked, IsAskedInRange}
 use Rattle.replay_main.specs.Judged.{asked_of}
+use Rattle.replay_main.specs.Bounds.{SumsAreSmall, HonestSumsAreSmall}
 use Rattle.replay_main.specs.Reached.{IsWithin, IsReplayedTo, IsPlain}
 use Rattle.replay_main.proofs.Judging.{header_judged, section_judged, section_counts, judged_short}
 use Rattle.replay_main.proofs.Counting.{hooks_counted, ending_counted}
@@ -125,9 +126,9 @@ module _ (text : List ℕ) (h : Header) (counts : Counts) (first now : Tables) (
     honest = subst (IsHonest asked) (sym same) (law asked i.ranges);
   }
 
-  pub plain_fits : ((asked : Asked) → IsAskedInRange asked → calls_of_sections asked.sections ≤ 1048576 → SumsFit (serial asked)) → SumsFit (shown r)
-  unfolding asked
-  plain_fits law = subst SumsFit (sym same) (law asked i.ranges (omega (arith, i.few_calls, i.within.limits.hooks)))
+  pub plain_small : HonestSumsAreSmall → SerialIsHonest → SumsAreSmall (shown r)
+  unfolding asked plain_whole
+  plain_small law honest = law asked (shown r) i.ranges (omega (arith, i.few_calls, i.within.limits.hooks)) (plain_whole honest).honest
 
   pub plain_covers : ((asked : Asked) → IsAskedInRange asked → AppsCoverDeletions (serial asked)) → AppsCoverDeletions (shown r)
   unfolding asked

@@ -1,69 +1,22 @@
--- What stands on a shelf and what is live hold at each label at most what was charged, so their sums fit in words of 64 bits.
-use Rattle.std.proofs.Common.{◌≡◌, ℕ, zero, suc, ◌+◌, ◌≤◌, List, [], ◌∷◌, length, refl, sym, ap, subst, ◌∙◌, arith, Option, Some, None, Bool, true, false}
-use Rattle.std.specs.Prelude.{◌==◌, ◌&&◌, ◌||◌, not, nat_lt, cond, slice_get, filter}
-use Rattle.std.specs.List.{AllByRecursion}
+-- What stands on a shelf and what is live hold at each label at most what was charged.
+use Rattle.std.proofs.Common.{◌≡◌, ℕ, zero, suc, ◌+◌, List, [], ◌∷◌, length, refl, sym, ap, subst, ◌∙◌, arith, Option, Some, Bool, true, false}
+use Rattle.std.specs.Prelude.{◌==◌, ◌&&◌, ◌||◌, nat_lt, slice_get}
 use Rattle.std.proofs.lemmas.Bool.Decides.{nat_tests}
 use Rattle.acct_base.specs.declared.amount.Amount.{Amount}
-use Rattle.acct_base.specs.declared.amount.Row.{Row}
 use Rattle.acct_base.specs.declared.amount.Snapshot.{Snapshot}
 use Rattle.acct_base.specs.declared.charge.Charge.{Charge}
 use Rattle.acct_base.specs.declared.label.Label.{Label}
-use Rattle.acct_base.specs.Amounts.{IsAtMost, HasRoom, amount_at, amount_if, plus, same_label, total_by, zero_amount}
+use Rattle.acct_base.specs.Amounts.{IsAtMost, amount_at, amount_if, plus, same_label, total_by, zero_amount}
 use Rattle.acct_base.specs.Receipts.{charge_amount}
 use Rattle.acct_base.specs.Sums.{folded, lands_at}
 use Rattle.acct_base.proofs.SumLemmas.{amount_at-append, zero_plus}
 use Rattle.acct_base.proofs.Keys.{plus_zero}
 use Rattle.shelf.specs.declared.shelf.Deletion.{Deletion}
 use Rattle.shelf.specs.Shelved.{Phases}
-use Rattle.shelf.specs.Phases.{is_deleted, snapshot_rows, kept_rows, IsShelved}
-use Rattle.acct_plain.specs.Kept.{IsSmall}
-use Rattle.acct_plain.proofs.Holding.{IsBelow, sum_below}
-
--- ---- bounds
-
-part_has_room : (m : ℕ) (a b : Amount) → m ≤ 2097152 → IsAtMost a b → IsBelow m b → HasRoom a
-part_has_room m a b le h k = record {
-  rx_packets = omega (arith, le, h.rx_packets, k.rx_packets);
-  rx_bytes = omega (arith, le, h.rx_bytes, k.rx_bytes);
-  tx_packets = omega (arith, le, h.tx_packets, k.tx_packets);
-  tx_bytes = omega (arith, le, h.tx_bytes, k.tx_bytes);
-}
+use Rattle.shelf.specs.Phases.{snapshot_rows, kept_rows}
 
 pub at_most_is : (a b : Amount) → a ≡ b → IsAtMost a b
 at_most_is a b e = subst (IsAtMost a) e (record { rx_packets = omega arith; rx_bytes = omega arith; tx_packets = omega arith; tx_bytes = omega arith })
-
-more_on_both : (a b c : Amount) → IsAtMost a b → IsAtMost (plus c a) (plus c b)
-more_on_both a b c h = record {
-  rx_packets = omega (arith, h.rx_packets);
-  rx_bytes = omega (arith, h.rx_bytes);
-  tx_packets = omega (arith, h.tx_packets);
-  tx_bytes = omega (arith, h.tx_bytes);
-}
-
-more_on_right : (a b c : Amount) → IsAtMost a b → IsAtMost a (plus c b)
-more_on_right a b c h = record {
-  rx_packets = omega (arith, h.rx_packets);
-  rx_bytes = omega (arith, h.rx_bytes);
-  tx_packets = omega (arith, h.tx_packets);
-  tx_bytes = omega (arith, h.tx_bytes);
-}
-
--- rows of a list's part hold no more than the whole
-filtered_at_most : (test : Row → Bool) (rows : List Row) (l : Label) → IsAtMost (amount_at (filter test rows) l) (amount_at rows l)
-filtered_at_most test [] l = record { rx_packets = omega arith; rx_bytes = omega arith; tx_packets = omega arith; tx_bytes = omega arith }
-filtered_at_most test (row ∷ rows) l =
-    let rest = filtered_at_most test rows l in
-    elim (test row) as (λ b. IsAtMost (amount_at (cond b (row ∷ filter test rows) (filter test rows)) l) (plus (amount_if (same_label row.label l) row.amount) (amount_at rows l))) [
-      | true ↦ more_on_both (amount_at (filter test rows) l) (amount_at rows l) (amount_if (same_label row.label l) row.amount) rest
-      | false ↦ more_on_right (amount_at (filter test rows) l) (amount_at rows l) (amount_if (same_label row.label l) row.amount) rest
-    ]
-
--- what stands on the shelf of a phase holds no more than the phase did before it was divided
-pub shelved_at_most : (whole : Snapshot) (l : Label) (p : Snapshot × Option Deletion) → IsShelved whole p → IsAtMost (amount_at p.0.rows l) (amount_at whole.rows l)
-shelved_at_most whole l (snapshot, None) is = at_most_is (amount_at snapshot.rows l) (amount_at whole.rows l) (ap (λ (s : Snapshot). amount_at s.rows l) is)
-shelved_at_most whole l (snapshot, Some d) is =
-    let test : Row → Bool = λ row. not (is_deleted d.uid d.tag row) in
-    subst (λ (x : List Row). IsAtMost (amount_at x l) (amount_at whole.rows l)) (sym is.left) (filtered_at_most test whole.rows l)
 
 -- The charge landed at this label in a phase before this one.
 abbrev pub lands_before : ℕ → Label → Charge → Bool
@@ -139,17 +92,16 @@ with_live x a b y all h e = subst (IsAtMost (plus a b)) e (record {
   tx_bytes = omega (arith, h.tx_bytes);
 })
 
--- All rows together hold at a label no more than all charges did, which are few and small.
-pub rows_fit : (cs : List Charge) (phases : Phases) (live : Snapshot) (l : Label) → length cs ≤ 2097152 → AllByRecursion (λ (c : Charge). IsSmall (charge_amount c)) cs →
+-- All rows together hold at a label no more than all charges did.
+pub rows_at_most : (cs : List Charge) (phases : Phases) (live : Snapshot) (l : Label) →
     ((n : ℕ) (p : Snapshot × Option Deletion) → slice_get phases n ≡ Some p → IsAtMost (amount_at p.0.rows l) (folded cs n l)) →
-    amount_at live.rows l ≡ folded cs (length phases) l → HasRoom (amount_at (kept_rows phases live) l)
-rows_fit cs shelf live l few small shelved live_is =
+    amount_at live.rows l ≡ folded cs (length phases) l → IsAtMost (amount_at (kept_rows phases live) l) (folded_before cs (suc (length phases)) l)
+rows_at_most cs shelf live l shelved live_is =
     let now = length shelf in
     let from_zero : (n : ℕ) → n ≡ 0 + n = λ n. omega arith in
     let phases = snapshots_at_most cs 0 shelf l (λ n p e. subst (λ m. IsAtMost (amount_at p.0.rows l) (folded cs m l)) (from_zero n) (shelved n p e)) in
     let below = subst (λ m. IsAtMost (plus (folded_before cs 0 l) (amount_at (snapshot_rows shelf) l)) (folded_before cs m l)) (sym (from_zero now)) phases in
     let total : plus (folded_before cs now l) (amount_at live.rows l) ≡ folded_before cs (suc now) l =
     ap (plus (folded_before cs now l)) live_is ∙ folded_more cs now l in
-    let both = with_live (folded_before cs 0 l) (amount_at (snapshot_rows shelf) l) (amount_at live.rows l) (folded_before cs now l) (folded_before cs (suc now) l) below total in
-    subst HasRoom (sym (amount_at-append (snapshot_rows shelf) live.rows l))
-    (part_has_room (length cs) (plus (amount_at (snapshot_rows shelf) l) (amount_at live.rows l)) (folded_before cs (suc now) l) few both (sum_below (lands_before (suc now) l) charge_amount cs small))
+    subst (λ (a : Amount). IsAtMost a (folded_before cs (suc now) l)) (sym (amount_at-append (snapshot_rows shelf) live.rows l))
+    (with_live (folded_before cs 0 l) (amount_at (snapshot_rows shelf) l) (amount_at live.rows l) (folded_before cs now l) (folded_before cs (suc now) l) below total)

@@ -30,6 +30,13 @@ pub record IsReader (p : Parts) : Type 0 where
   pub size : length p.piece.items ≡ 65536
   pub few : p.count ≤ 268435457
 
+-- Bytes were taken off a source and counted, and no more than show that a script has too many.
+pub record HasTaken (was now : Option (List ℕ)) (old new : Parts) : Type 0 where
+  pub got : List ℕ
+  pub read : Consumes was now got
+  pub counted : new.count ≡ old.count + length got
+  pub few : new.count ≤ 268435457
+
 -- Nothing comes behind what was read: the source ended, or gave more bytes than a script has.
 abbrev pub IsOver : Option (List ℕ) → Parts → Type 0
 IsOver left p = (ahead p ≡ []) × (IsAtEnd left ⊎ (p.count ≡ 268435457))

@@ -5,6 +5,7 @@ pub mod Incoming
 pub mod Reached
 pub mod Judgements
 pub mod Run
+pub mod Bounds
 pub mod Generated
 pub mod Summary
 pub mod Replays

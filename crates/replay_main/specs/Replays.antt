@@ -1,5 +1,5 @@
 -- A replay on an engine: its sections ran one after another on a new one, and then it was closed.
-use Rattle.std.specs.Prelude.{◌≡◌, ℕ, ◌≤◌, List, [], ◌++◌, flat_map}
+use Rattle.std.specs.Prelude.{◌≡◌, ℕ, List, [], ◌++◌, flat_map}
 use Rattle.std.specs.List.{AllByRecursion, AllZip}
 use Rattle.acct_base.specs.declared.amount.Snapshot.{Snapshot}
 use Rattle.acct_base.specs.Amounts.{zero_amount}
@@ -9,11 +9,10 @@ use Rattle.hook_engine.specs.Ends.{Rest, EngineClosed, Told, Ended}
 use Rattle.shelf.specs.declared.report.SectionOut.{SectionOut}
 use Rattle.shelf.specs.Phases.{IsShelved}
 use Rattle.shelf.specs.Shown.{Shown}
-use Rattle.captures.specs.Calls.{Asked, IsAskedInRange}
+use Rattle.captures.specs.Calls.{Asked}
 use Rattle.captures.specs.Honest.{IsHonest, all_pairs}
 use Rattle.acct_plain.specs.Serial.{serial}
-use Rattle.acct_plain.specs.Walks.{calls_of_sections}
-use Rattle.dump_text.specs.Room.{SumsFit, AppsCoverDeletions}
+use Rattle.dump_text.specs.Room.{AppsCoverDeletions}
 use Rattle.lanes.specs.Progress.{Progress}
 use Rattle.lanes.specs.Sections.{CrewRan, IsSerialSection}
 
@@ -70,13 +69,7 @@ ReplayIsSerial =
     (budget : ℕ) (asked : Asked) (crew : Progress) (outs : List SectionOut) (rest : Rest) →
     HasReplayed budget asked crew outs rest → AllByRecursion IsSerialSection asked.sections → report_of asked.names outs crew rest ≡ serial asked
 
--- A replay of at most 1,048,576 calls in their ranges has a report whose sums of rows fit in words of 64 bits.
-abbrev pub ReplayFits : Type 0
-ReplayFits =
-    (budget : ℕ) (asked : Asked) (crew : Progress) (outs : List SectionOut) (rest : Rest) →
-    IsAskedInRange asked → calls_of_sections asked.sections ≤ 1048576 → HasReplayed budget asked crew outs rest → SumsFit (report_of asked.names outs crew rest)
-
--- Its deletions recorded of no app more than its total.
+-- Deletions of a replay recorded of no app more than its total.
 abbrev pub ReplayCovers : Type 0
 ReplayCovers =
     (budget : ℕ) (asked : Asked) (crew : Progress) (outs : List SectionOut) (rest : Rest) →

@@ -3,6 +3,7 @@
 ghost use Rattle.std.specs.Prelude.{◌≡◌, IfOk, IfErr, string_bytes};
 ghost use Rattle.outside.specs.Generated.{generated};
 ghost use Rattle.shelf.specs.Shown.{shown};
+ghost use Rattle.replay_main.specs.Bounds.{SumsAreSmall};
 ghost use Rattle.replay_main.specs.Run.{IsReplayed};
 ghost use Rattle.replay_main.specs.Summary.{summary};
 ghost use Rattle.replay_main.specs.Words.{AreRounds};
@@ -28,6 +29,7 @@ pub fn replayed_in_bulk<R: Threads + Wait + Sync, G: Gate, T: Tally>(
 ) -> Result<(Report, String), Fault>
     requires rounds { AreRounds rounds }
     ensures report { IfOk result (λ t. IsReplayed (generated rounds) t.0 (T.told tally.old) (T.told tally.new)) }
+    ensures small { IfOk result (λ t. SumsAreSmall (shown t.0)) }
     ensures line { IfOk result (λ t. string_bytes t.1 ≡ summary rounds (shown t.0)) }
     ensures memory { IfErr result (λ fault. fault ≡ Fault.Memory) }
 {

@@ -1,7 +1,7 @@
 //! The counts of a script.
 
 ghost use Rattle.std.specs.Prelude.{◌≤◌, IfOk, IfErr, IsErrOf};
-ghost use Rattle.outside.specs.Outside.{Rose};
+ghost use Rattle.outside.specs.Outside.{Rose, ConsumesUpTo};
 ghost use Rattle.replay_main.specs.declared.fault.Fault.{Fault as Faulty};
 ghost use Rattle.replay_main.specs.Faults.{IsJudgingFault};
 ghost use Rattle.replay_main.specs.Reached.{IsRead, IsCheckedAs};
@@ -18,6 +18,7 @@ use std::alloc::Global;
 /// Judges the script that a source has, and gives its counts.
 pub fn checked<S: Source>(alloc: Global, source: &mut S) -> Result<Counts, Fault>
     ensures counts { IfOk result (λ counts. (text : List ℕ) × IsRead (S.left source.old) (S.left source.new) text × IsCheckedAs text counts) }
+    ensures bound { ConsumesUpTo (S.left source.old) (S.left source.new) 268435457 }
     ensures read_fault { IsErrOf result Fault.ReadFault → Rose (S.faults source.old) (S.faults source.new) }
     ensures decides { (f : Faulty) → IsErrOf result f → IsOfText f → WasSo (DecidesOn f) (S.left source.old) }
     ensures faults { IfErr result IsJudgingFault }

@@ -1,13 +1,13 @@
 //! A script that comes in part by part. Of its text only the part under way is held, and that only while it is read.
 
 ghost use Rattle.std.specs.Prelude.{◌≡◌, ◌≢◌, ◌≤◌, ◌+◌, ℕ, true, false, Some, IfOk, IfErr, IfSome, IfNone, IsErrOf};
-ghost use Rattle.outside.specs.Outside.{Rose};
+ghost use Rattle.outside.specs.Outside.{Rose, ConsumesUpTo};
 ghost use Rattle.script_text.specs.Parts.{header_text, section_text};
 ghost use Rattle.script_text.specs.Limits.{header_counts, counts_after, tally_before};
 ghost use Rattle.script_text.specs.Script.{IsFirstHeader, IsNextSection};
 ghost use Rattle.replay_main.specs.declared.fault.Fault.{Fault as Faulty};
 ghost use Rattle.replay_main.specs.Faults.{IsJudgingFault};
-ghost use Rattle.replay_main.specs.Incoming.{HasCome, IsComing, TakesPart, SectionFails};
+ghost use Rattle.replay_main.specs.Incoming.{HasCome, HasTaken, IsComing, TakesPart, SectionFails};
 ghost use Rattle.replay_main.specs.Reached.{IsWithin};
 ghost use Rattle.replay_main.specs.Run.{WasSo, DecidesOn, IsOfText};
 
@@ -32,6 +32,7 @@ impl Incoming {
         ensures header { IfOk result (λ p. IsFirstHeader p.0) }
         ensures counts { IfOk result (λ p. p.1.counts ≡ header_counts p.0) }
         ensures within { IfOk result (λ p. IsWithin p.1.counts) }
+        ensures bound { ConsumesUpTo (S.left source.old) (S.left source.new) 268435457 }
         ensures come { IfOk result (λ p. HasCome (S.left source.old) (S.left source.new) p.1 (header_text p.0)) }
         ensures read_fault { IsErrOf result Fault.ReadFault → Rose (S.faults source.old) (S.faults source.new) }
         ensures decides { (f : Faulty) → IsErrOf result f → IsOfText f → WasSo (DecidesOn f) (S.left source.old) }
@@ -65,6 +66,7 @@ impl Incoming {
         ensures counts { IfOk result (λ r. IfSome r (λ s. self.new.counts ≡ counts_after self.old.counts s)) }
         ensures within { IfOk result (λ r. IfSome r (λ s. IsWithin self.new.counts)) }
         ensures takes { IfOk result (λ r. IfSome r (λ s. TakesPart (S.left source.old) (S.left source.new) self.old.parts self.new.parts (section_text s) self.new.is_over)) }
+        ensures taken { HasTaken (S.left source.old) (S.left source.new) self.old.parts self.new.parts }
         ensures was { IfOk result (λ r. IfSome r (λ s. self.old.is_over ≡ false)) }
         ensures read_fault { IsErrOf result Fault.ReadFault → Rose (S.faults source.old) (S.faults source.new) }
         ensures decides { (f : Faulty) → IsErrOf result f → IsOfText f → SectionFails (S.left source.old) (S.left source.new) self.old self.new.parts f }

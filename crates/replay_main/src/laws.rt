@@ -1,13 +1,12 @@
 //! Laws of the definitions. Each is the contract of a function with nothing to do.
 
-ghost use Rattle.std.specs.Prelude.{◌≤◌};
 ghost use Rattle.captures.specs.Calls.{Asked, IsAskedInRange};
 ghost use Rattle.acct_plain.specs.Serial.{serial};
-ghost use Rattle.acct_plain.specs.Walks.{calls_of_sections};
-ghost use Rattle.dump_text.specs.Room.{SumsFit, AppsCoverDeletions};
+ghost use Rattle.dump_text.specs.Room.{AppsCoverDeletions};
+ghost use Rattle.replay_main.specs.Bounds.{HonestSumsAreSmall};
 ghost use Rattle.replay_main.specs.Generated.{GeneratedIsScript};
 ghost use Rattle.replay_main.specs.Judgements.{ScriptHasNoFault, OneFault, ScriptIsReadOnce};
-ghost use Rattle.replay_main.specs.Replays.{ReplayIsHonest, ReplayIsTold, ReplayIsSerial, ReplayFits, ReplayCovers};
+ghost use Rattle.replay_main.specs.Replays.{ReplayIsHonest, ReplayIsTold, ReplayIsSerial, ReplayCovers};
 
 use acct_base::length_is_charged;
 use captures::run_is_honest;
@@ -26,14 +25,18 @@ pub fn generated_is_a_script()
     ensures script { GeneratedIsScript }
 {}
 
-/// Where calls and commands are in their ranges, the walk's deletions record of no app more than its total, and the
-/// sums of its rows fit in words of 64 bits if there are at most 1,048,576 calls.
-pub fn serial_can_be_told()
-    ensures fits { (asked : Asked) → IsAskedInRange asked → calls_of_sections asked.sections ≤ 1048576 → SumsFit (serial asked) }
-    ensures covers { (asked : Asked) → IsAskedInRange asked → AppsCoverDeletions (serial asked) }
+/// In an honest report each sum is below 2^48, where calls are in their ranges and no more than 1,048,576. Neither a
+/// dump's sums nor its counts pass a word of 64 bits.
+pub fn honest_sums_are_small()
+    ensures { HonestSumsAreSmall }
 {
     length_is_charged();
 }
+
+/// Where calls and commands are in their ranges, the walk's deletions record of no app more than its total.
+pub fn serial_deletions_are_covered()
+    ensures { (asked : Asked) → IsAskedInRange asked → AppsCoverDeletions (serial asked) }
+{}
 
 /// The report of a replay on an engine is honest, whatever the order in which lanes, desk and collector took their
 /// steps. A tally is told of what the report says. Where no section's receipts depend on the order of steps, the
@@ -46,11 +49,7 @@ pub fn replays_on_engines()
     run_is_honest();
 }
 
-/// Where calls are in their ranges, deletions of a replay on an engine record of no app more than its total, and the
-/// sums of its rows fit in words of 64 bits if there are at most 1,048,576 calls.
-pub fn replays_can_be_told()
-    ensures fits { ReplayFits }
-    ensures covers { ReplayCovers }
-{
-    length_is_charged();
-}
+/// Deletions of a replay on an engine record of no app more than its total.
+pub fn replay_deletions_are_covered()
+    ensures { ReplayCovers }
+{}

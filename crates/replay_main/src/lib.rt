@@ -19,8 +19,8 @@ mod words;
 
 pub use fault::Fault;
 pub use laws::{
-    generated_is_a_script, one_judgement, replays_can_be_told, replays_on_engines,
-    serial_can_be_told,
+    generated_is_a_script, one_judgement, replay_deletions_are_covered, replays_on_engines,
+    serial_deletions_are_covered,
 };
 pub use outcome::{Outcome, run_plain};
 pub use runs::run;

@@ -1,19 +1,20 @@
 //! A script's replay on an engine: the lanes of a section run side by side, beside its desk.
 
 ghost use Rattle.std.specs.Prelude.{◌≡◌, ◌+◌, ◌<◌, ◌≤◌, ◌^◌, ℕ, true, List, Option, length, IfOk, IfErr, IsErrOf};
-ghost use Rattle.outside.specs.Outside.{Rose};
+ghost use Rattle.outside.specs.Outside.{Rose, ConsumesUpTo};
 ghost use Rattle.script_text.specs.declared.header.Header.{Header as Headed};
 ghost use Rattle.script_text.specs.Parts.{IsSection};
 ghost use Rattle.script_text.specs.Script.{IsFirstHeader};
 ghost use Rattle.captures.specs.Calls.{SectionCalls};
 ghost use Rattle.captures.specs.Sections.{AreCalls, CaptureIsBad, NoPacketAt};
 ghost use Rattle.shelf.specs.Shown.{shown};
-ghost use Rattle.dump_text.specs.Room.{SumsFit, AppsCoverDeletions};
+ghost use Rattle.dump_text.specs.Room.{AppsCoverDeletions};
 ghost use Rattle.hook_engine.specs.Ends.{EndedWhereTold, EngineClosed, room_for, Rest};
 ghost use Rattle.hook_engine.specs.Passes.{IsSole};
 ghost use Rattle.hook_engine.specs.Tables.{AreSeatsOf};
 ghost use Rattle.lanes.specs.Crews.{IsReady, progress_of};
 ghost use Rattle.replay_main.specs.declared.fault.Fault.{Fault as Faulty};
+ghost use Rattle.replay_main.specs.Bounds.{SumsAreSmall};
 ghost use Rattle.replay_main.specs.Faults.{IsJudgingFault};
 ghost use Rattle.replay_main.specs.OnEngine.{IsOpened, MayRun, SectionAdds, RanSoFar, IsCallsFault};
 ghost use Rattle.replay_main.specs.Reached.{IsRead};
@@ -22,7 +23,7 @@ ghost use Rattle.replay_main.specs.Run.{WasSo, DecidesOn, IsOfText, IsReplayed};
 
 use crate::fault::Fault;
 use crate::incoming::Incoming;
-use crate::laws::{replays_can_be_told, replays_on_engines};
+use crate::laws::{honest_sums_are_small, replay_deletions_are_covered, replays_on_engines};
 use acct_base::NameList;
 use captures::resolve;
 use collector::Collector;
@@ -49,14 +50,16 @@ pub fn replayed_on_engine<R: Threads + Wait + Sync, S: Source, G: Gate, T: Tally
     tally: &mut T,
 ) -> Result<Report, Fault>
     ensures report { IfOk result (λ r. (text : List ℕ) × IsRead (S.left source.old) (S.left source.new) text × IsReplayed text r (T.told tally.old) (T.told tally.new)) }
-    ensures sums { IfOk result (λ r. SumsFit (shown r)) }
+    ensures small { IfOk result (λ r. SumsAreSmall (shown r)) }
     ensures covers { IfOk result (λ r. AppsCoverDeletions (shown r)) }
+    ensures bound { ConsumesUpTo (S.left source.old) (S.left source.new) 268435457 }
     ensures read_fault { IsErrOf result Fault.ReadFault → Rose (S.faults source.old) (S.faults source.new) }
     ensures decides { (f : Faulty) → IsErrOf result f → IsOfText f → WasSo (DecidesOn f) (S.left source.old) }
     ensures faults { IfErr result IsJudgingFault }
 {
     replays_on_engines();
-    replays_can_be_told();
+    replay_deletions_are_covered();
+    honest_sums_are_small();
     let (header, mut script) = Incoming::begin(alloc, source)?;
     let (engine, crew, room) = opened(alloc, &header)?;
     let mut sections = SectionList::new(alloc);
@@ -110,6 +113,8 @@ fn run_all<R: Threads + Wait + Sync, S: Source, G: Gate>(
     requires so_far { (was : Option (List ℕ)) × ((header : Headed) × RanSoFar was (S.left source.old) script.old header engine.now crew sections.old) }
     ensures ran { (was : Option (List ℕ)) (header : Headed) → RanSoFar was (S.left source.old) script.old header engine.now crew sections.old →
         IfOk result (λ after. RanSoFar was (S.left source.new) script.new header engine.now after sections.new × (script.new.is_over ≡ true)) }
+    ensures bound { (was : Option (List ℕ)) (header : Headed) → RanSoFar was (S.left source.old) script.old header engine.now crew sections.old →
+        ConsumesUpTo was (S.left source.new) 268435457 }
     ensures read_fault { IsErrOf result Fault.ReadFault → Rose (S.faults source.old) (S.faults source.new) }
     ensures decides { (was : Option (List ℕ)) (header : Headed) → RanSoFar was (S.left source.old) script.old header engine.now crew sections.old →
         (f : Faulty) → IsErrOf result f → IsOfText f → WasSo (DecidesOn f) was }

@@ -1,15 +1,17 @@
 //! What a run comes to, and the runs that need no other thread: a script is read from a source, judged and replayed on this one, and what was asked for is written to a sink.
 
-ghost use Rattle.std.specs.Prelude.{◌≡◌, ◌≢◌, ◌⊎◌, ◌↔◌, List, ℕ, Some, None, IfOk, IfErr, OnOk, IsErrOf, string_bytes};
+ghost use Rattle.std.specs.Prelude.{◌≡◌, ◌≢◌, ◌⊎◌, ◌↔◌, List, ℕ, Some, None, IfOk, IfErr, IfSome, OnOk, IsErrOf, string_bytes};
 ghost use Rattle.std.specs.Io.KnownBytes.{Appends};
 ghost use Rattle.outside.specs.Generated.{generated};
-ghost use Rattle.outside.specs.Outside.{Rose, AppendsPrefix};
+ghost use Rattle.shelf.specs.Shown.{shown};
+ghost use Rattle.outside.specs.Outside.{Rose, AppendsPrefix, ConsumesUpTo};
 ghost use Rattle.replay_main.specs.declared.fault.Fault.{Fault as Faulty};
 ghost use Rattle.replay_main.specs.declared.words.Form.{Form as Asks};
 ghost use Rattle.replay_main.specs.declared.words.Form.TheVariants.{Plain, Check, Gen};
 ghost use Rattle.replay_main.specs.Words.{AreRounds, AskFor, IsPlainForm, IsGenerated, AreNoPlainForm};
 ghost use Rattle.replay_main.specs.Faults.{status_of, IsJudgingFault};
 ghost use Rattle.replay_main.specs.Reached.{IsRead};
+ghost use Rattle.replay_main.specs.Bounds.{SumsAreSmall};
 ghost use Rattle.replay_main.specs.Run.{HasRun, Gives, WasSo, TellsSo, DecidesOn, LooksLikeScript, IsOfText, judged_text, check_text};
 
 use crate::check::checked;
@@ -54,12 +56,14 @@ fn plain_to<S: Source, K: Sink>(
 ) -> Outcome
     ensures done { result.fault ≡ None → HasRun (Plain receipts) (S.left source.old) (S.left source.new) None None result.report (Appends (K.written sink.old) (K.written sink.new)) }
     ensures cut_off { result.fault ≡ Some Fault.WriteFault → HasRun (Plain receipts) (S.left source.old) (S.left source.new) None None result.report (AppendsPrefix (K.written sink.old) (K.written sink.new)) }
+    ensures bound { ConsumesUpTo (S.left source.old) (S.left source.new) 268435457 }
     ensures read_fault { result.fault ≡ Some Fault.ReadFault → Rose (S.faults source.old) (S.faults source.new) }
     ensures write_fault { result.fault ≡ Some Fault.WriteFault → Rose (K.faults sink.old) (K.faults sink.new) }
     ensures script { result.fault ≡ None → WasSo LooksLikeScript (S.left source.old) }
     ensures usage { result.fault ≢ Some Fault.Usage }
     ensures decides { (f : Faulty) → result.fault ≡ Some f → IsOfText f → WasSo (DecidesOn f) (S.left source.old) }
     ensures refused { (f : Faulty) → result.fault ≡ Some f → f ≢ Fault.WriteFault → (result.report ≡ None) × (sink.new ≡ sink.old) }
+    ensures small { IfSome result.report (λ report. SumsAreSmall (shown report)) }
     ensures status { result.status ≡ status_of result.fault }
 {
     let report = match replayed(alloc, source) {
@@ -98,6 +102,7 @@ fn check_line(alloc: Global, counts: &Counts) -> Result<String, AllocError>
 fn line_of<S: Source>(alloc: Global, source: &mut S) -> Result<String, Fault>
     ensures gives { IfOk result (λ line. (script : List ℕ) × IsRead (S.left source.old) (S.left source.new) script × Gives Check script None None None (string_bytes line)) }
     ensures script { OnOk result (WasSo LooksLikeScript (S.left source.old)) }
+    ensures bound { ConsumesUpTo (S.left source.old) (S.left source.new) 268435457 }
     ensures read_fault { IsErrOf result Fault.ReadFault → Rose (S.faults source.old) (S.faults source.new) }
     ensures decides { (f : Faulty) → IsErrOf result f → IsOfText f → WasSo (DecidesOn f) (S.left source.old) }
     ensures faults { IfErr result IsJudgingFault }
@@ -111,6 +116,7 @@ fn line_of<S: Source>(alloc: Global, source: &mut S) -> Result<String, Fault>
 fn check_to<S: Source, K: Sink>(alloc: Global, source: &mut S, sink: &mut K) -> Outcome
     ensures done { result.fault ≡ None → HasRun Check (S.left source.old) (S.left source.new) None None result.report (Appends (K.written sink.old) (K.written sink.new)) }
     ensures cut_off { result.fault ≡ Some Fault.WriteFault → HasRun Check (S.left source.old) (S.left source.new) None None result.report (AppendsPrefix (K.written sink.old) (K.written sink.new)) }
+    ensures bound { ConsumesUpTo (S.left source.old) (S.left source.new) 268435457 }
     ensures read_fault { result.fault ≡ Some Fault.ReadFault → Rose (S.faults source.old) (S.faults source.new) }
     ensures write_fault { result.fault ≡ Some Fault.WriteFault → Rose (K.faults sink.old) (K.faults sink.new) }
     ensures script { result.fault ≡ None → WasSo LooksLikeScript (S.left source.old) }
@@ -193,6 +199,11 @@ pub fn run_plain<S: Source, K: Sink>(
     ensures refused { (f : Faulty) → result.fault ≡ Some f → f ≢ Fault.WriteFault → (result.report ≡ None) × (sink.new ≡ sink.old) }
     ensures unread { result.fault ≡ Some Fault.Usage → source.new ≡ source.old }
     ensures made { (form : Asks) → IsGenerated form → AskFor words.now form → source.new ≡ source.old }
+
+    // Whatever it comes to, no more bytes are read than show that a script has too many. A read that gives bytes gives one at least, so there are no more of those.
+    ensures bound { ConsumesUpTo (S.left source.old) (S.left source.new) 268435457 }
+    // What a report adds up is far below what its words hold.
+    ensures small { IfSome result.report (λ report. SumsAreSmall (shown report)) }
 
     ensures status { result.status ≡ status_of result.fault }
 {

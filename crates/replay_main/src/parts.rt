@@ -1,12 +1,12 @@
 //! The parts of a script, as its source gives them.
 
 ghost use Rattle.std.specs.Prelude.{◌≡◌, ◌⊎◌, ◌+◌, ◌≤◌, ◌<◌, [], ◌++◌, length, take, Ok, IfOk, OnOk, OnErr, IfSome, IfNone, IsErrOf};
-ghost use Rattle.std.specs.Io.KnownBytes.{Consumes, IsAtEnd};
+ghost use Rattle.std.specs.Io.KnownBytes.{Consumes, Keeps, IsAtEnd};
 ghost use Rattle.outside.specs.Outside.{Rose};
 ghost use Rattle.outside.specs.declared.whole.ReadError.TheVariants.{Memory};
 ghost use Rattle.script_text.specs.Faults.{BeginsSection};
 ghost use Rattle.script_text.specs.Cuts.{EndsLine, IsUncut};
-ghost use Rattle.replay_main.specs.Incoming.{IsReader, unfed, ahead, TakesPart};
+ghost use Rattle.replay_main.specs.Incoming.{IsReader, HasTaken, unfed, ahead, TakesPart};
 
 use acct_base::ByteList;
 use outside::{Failed, ReadError, Source};
@@ -48,6 +48,7 @@ fn read_front<S: Source>(source: &mut S, piece: &mut [u8], most: usize) -> Resul
     ensures bytes { IfOk result (λ n. Consumes (S.left source.old) (S.left source.new) (take n piece.new)) }
     ensures end { result ≡ Ok 0 → 0 < most → IsAtEnd (S.left source.new) }
     ensures failed { OnErr result (Rose (S.faults source.old) (S.faults source.new)) }
+    ensures none_lost { OnErr result (Keeps (S.left source.old) (S.left source.new)) }
     ensures count { S.faults source.old ≤ S.faults source.new }
 {
     source.read(&mut piece[..most])
@@ -77,6 +78,7 @@ impl Parts {
         ensures read { OnOk result (Consumes (S.left source.old) (S.left source.new) (unfed self.new)) }
         ensures counted { OnOk result (self.new.count ≡ self.old.count + length (unfed self.new)) }
         ensures whole { OnOk result (length (unfed self.new) ≡ self.new.filled) }
+        ensures taken { HasTaken (S.left source.old) (S.left source.new) self.old self.new }
         ensures end { OnOk result (unfed self.new ≡ [] → IsAtEnd (S.left source.new) ⊎ (self.new.count ≡ 268435457)) }
         ensures failed { IsErrOf result ReadError.Failed → Rose (S.faults source.old) (S.faults source.new) }
         ensures faults { S.faults source.old ≤ S.faults source.new }
@@ -116,6 +118,7 @@ impl Parts {
     pub fn next<S: Source>(&mut self, alloc: Global, source: &mut S) -> Result<Part, ReadError>
         requires reader { IsReader self.old }
         ensures takes { IfOk result (λ part. TakesPart (S.left source.old) (S.left source.new) self.old self.new part.bytes part.is_last) }
+        ensures taken { HasTaken (S.left source.old) (S.left source.new) self.old self.new }
         ensures failed { IsErrOf result ReadError.Failed → Rose (S.faults source.old) (S.faults source.new) }
         ensures faults { S.faults source.old ≤ S.faults source.new }
     {

@@ -1,13 +1,15 @@
 //! The top call: a script is replayed on an engine, or what the words ask for is done on this thread.
 
-ghost use Rattle.std.specs.Prelude.{◌≡◌, ◌≢◌, ◌⊎◌, ◌↔◌, ℕ, List, Option, Some, None};
+ghost use Rattle.std.specs.Prelude.{◌≡◌, ◌≢◌, ◌⊎◌, ◌↔◌, ℕ, List, Option, Some, None, IfSome};
 ghost use Rattle.std.specs.Io.KnownBytes.{Appends};
-ghost use Rattle.outside.specs.Outside.{Rose, AppendsPrefix};
+ghost use Rattle.shelf.specs.Shown.{shown};
+ghost use Rattle.outside.specs.Outside.{Rose, AppendsPrefix, ConsumesUpTo};
 ghost use Rattle.replay_main.specs.declared.fault.Fault.{Fault as Faulty};
 ghost use Rattle.replay_main.specs.declared.words.Form.{Form as Asks};
 ghost use Rattle.replay_main.specs.declared.words.Form.TheVariants.{Replay, Gen, Bulk};
 ghost use Rattle.replay_main.specs.Words.{AreRounds, AskFor, IsGenerated, AreNoForm};
 ghost use Rattle.replay_main.specs.Faults.{status_of};
+ghost use Rattle.replay_main.specs.Bounds.{SumsAreSmall};
 ghost use Rattle.replay_main.specs.Run.{HasRun, WasSo, TellsSo, DecidesOn, LooksLikeScript, IsOfText, judged_text};
 
 use crate::bulk::replayed_in_bulk;
@@ -34,12 +36,14 @@ fn replay_to<R: Threads + Wait + Sync, S: Source, K: Sink, G: Gate, T: Tally>(
 ) -> Outcome
     ensures done { result.fault ≡ None → HasRun (Replay receipts) (S.left source.old) (S.left source.new) (T.told tally.old) (T.told tally.new) result.report (Appends (K.written sink.old) (K.written sink.new)) }
     ensures cut_off { result.fault ≡ Some Fault.WriteFault → HasRun (Replay receipts) (S.left source.old) (S.left source.new) (T.told tally.old) (T.told tally.new) result.report (AppendsPrefix (K.written sink.old) (K.written sink.new)) }
+    ensures bound { ConsumesUpTo (S.left source.old) (S.left source.new) 268435457 }
     ensures read_fault { result.fault ≡ Some Fault.ReadFault → Rose (S.faults source.old) (S.faults source.new) }
     ensures write_fault { result.fault ≡ Some Fault.WriteFault → Rose (K.faults sink.old) (K.faults sink.new) }
     ensures script { result.fault ≡ None → WasSo LooksLikeScript (S.left source.old) }
     ensures usage { result.fault ≢ Some Fault.Usage }
     ensures decides { (f : Faulty) → result.fault ≡ Some f → IsOfText f → WasSo (DecidesOn f) (S.left source.old) }
     ensures refused { (f : Faulty) → result.fault ≡ Some f → f ≢ Fault.WriteFault → (result.report ≡ None) × (sink.new ≡ sink.old) }
+    ensures small { IfSome result.report (λ report. SumsAreSmall (shown report)) }
     ensures status { result.status ≡ status_of result.fault }
 {
     let report = match replayed_on_engine(rt, alloc, source, gate, tally) {
@@ -76,6 +80,7 @@ fn bulk_to<R: Threads + Wait + Sync, K: Sink, G: Gate, T: Tally>(
     ensures faults { (f : Faulty) → result.fault ≡ Some f → (f ≡ Fault.WriteFault) ⊎ (f ≡ Fault.Memory) }
     ensures write_fault { result.fault ≡ Some Fault.WriteFault → Rose (K.faults sink.old) (K.faults sink.new) }
     ensures refused { (f : Faulty) → result.fault ≡ Some f → f ≢ Fault.WriteFault → (result.report ≡ None) × (sink.new ≡ sink.old) }
+    ensures small { IfSome result.report (λ report. SumsAreSmall (shown report)) }
     ensures status { result.status ≡ status_of result.fault }
 {
     let (report, line) = match replayed_in_bulk(rt, alloc, rounds, gate, tally) {
@@ -138,6 +143,11 @@ pub fn run<R: Threads + Wait + Sync, S: Source, K: Sink, G: Gate, T: Tally>(
     ensures refused { (f : Faulty) → result.fault ≡ Some f → f ≢ Fault.WriteFault → (result.report ≡ None) × (sink.new ≡ sink.old) }
     ensures unread { result.fault ≡ Some Fault.Usage → source.new ≡ source.old }
     ensures made { (form : Asks) → IsGenerated form → AskFor words.now form → source.new ≡ source.old }
+
+    // Whatever it comes to, no more bytes are read than show that a script has too many. A read that gives bytes gives one at least, so there are no more of those.
+    ensures bound { ConsumesUpTo (S.left source.old) (S.left source.new) 268435457 }
+    // What a report adds up is far below what its words hold.
+    ensures small { IfSome result.report (λ report. SumsAreSmall (shown report)) }
 
     ensures status { result.status ≡ status_of result.fault }
 {

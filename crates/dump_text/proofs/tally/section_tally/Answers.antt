@@ -1,10 +1,26 @@
-use Rattle.std.proofs.Common.{◌∙◌, ap}
+use Rattle.std.proofs.Common.{◌≡◌, ◌∙◌, ◌≤◌, ◌^◌, ℕ, List, length, ap, sym, subst, rules}
+use Rattle.std.specs.List.{flat_map}
+use Rattle.acct_base.specs.declared.receipt.LineReceipt.{LineReceipt}
 use Rattle.dump_text.specs.declared.tally.Tally.{Tally}
-use Rattle.dump_text.specs.Tallied.{added}
-use Rattle.dump_text.proofs.TallyLemmas.{tally_more}
+use Rattle.dump_text.specs.Dump.{section_receipts}
+use Rattle.dump_text.specs.Tallied.{added, AreTooMany}
+use Rattle.dump_text.proofs.TallyLemmas.{tally_more, more_fits, part_is_few, where_err}
 use Rattle.dump_text.proofs.tally.section_tally.Goals as goal
 
 pub loop-lane-preserved : goal.loop-lane-preserved
 loop-lane-preserved c =
     tally_more (λ lane. lane) c.as_slice-lane-items.result.now c.loop-lane.lane-index c.lane-item.result c.loop-lane.sum c.in_ok-sum.sum c.loop-lane-test.true c.lane-item.is c.loop-lane.invariant
-    (c.in_ok-sum.ensures ∙ ap (λ (t : Tally). added c.loop-lane.sum t) c.in_ok-lane_tally.ensures)
+    (c.in_ok-sum.ensures.sum ∙ ap (λ (t : Tally). added c.loop-lane.sum t) c.in_ok-lane_tally.ensures.sum)
+
+pub returns-in_err-lane_tally-clause-fails : goal.returns-in_err-lane_tally-clause-fails
+returns-in_err-lane_tally-clause-fails c =
+    let same : c.as_slice-lane-items.result.now ≡ c.args.section.now.lanes = search rules in
+    let many : AreTooMany (section_receipts c.args.section.now) = λ few. c.in_err-lane_tally.ensures.fails (part_is_few (λ lane. lane) c.as_slice-lane-items.result.now c.loop-lane.lane-index c.lane-item.result c.loop-lane-test.true c.lane-item.is (subst (λ (x : List (List (ℕ × LineReceipt))). length (flat_map (λ lane. lane) x) ≤ 2 ^ 62) (sym same) few)) in
+    where_err _ _ many
+
+pub returns-in_err-sum-clause-fails : goal.returns-in_err-sum-clause-fails
+returns-in_err-sum-clause-fails c =
+    let same : c.as_slice-lane-items.result.now ≡ c.args.section.now.lanes = search rules in
+    let many : AreTooMany (section_receipts c.args.section.now) = λ few. c.in_err-sum.ensures.fails (more_fits (λ lane. lane) c.as_slice-lane-items.result.now c.loop-lane.lane-index c.lane-item.result c.loop-lane.sum _ c.loop-lane-test.true c.lane-item.is c.loop-lane.invariant
+    c.in_ok-lane_tally.ensures.sum (subst (λ (x : List (List (ℕ × LineReceipt))). length (flat_map (λ lane. lane) x) ≤ 2 ^ 62) (sym same) few)) in
+    where_err _ _ many

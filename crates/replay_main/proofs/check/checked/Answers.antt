@@ -2,6 +2,7 @@ use Rattle.std.proofs.Common.{◌≡◌, ◌∙◌, ℕ, List, Option, true, ap,
 use Rattle.std.proofs.lemmas.Result.{err_from_is_err_and}
 use Rattle.replay_main.specs.declared.incoming.Incoming.{Incoming}
 use Rattle.replay_main.specs.Reached.{IsRead, IsCheckedAs}
+use Rattle.replay_main.proofs.Taking.{come_up_to}
 use Rattle.replay_main.proofs.Counting.{capture_small}
 use Rattle.replay_main.proofs.Outsides.{err_is, some_is}
 use Rattle.replay_main.proofs.Coming.{may_come, section_shorter, counted_begins, counted_goes_on, counted_fails, counted_lacks_calls, counted_over}
@@ -76,3 +77,9 @@ returns-clause-counts g c =
       subst (λ (left : Option (List ℕ)). IsRead (g.S.Source.left c.args.source.now) left at.0) (ap g.S.Source.left (sym over.2)) at.1,
       subst (IsCheckedAs at.0) (sym counted) at.2,
     )
+
+pub returns-in_err-section-clause-bound : goal.returns-in_err-section-clause-bound
+returns-in_err-section-clause-bound g c = let s = c.loop-script.invariant.so_far in come_up_to _ _ _ c.loop-script.script c.section.new.self.parts s.0 s.1 c.section.ensures.taken
+
+pub returns-in_err-resolve-clause-bound : goal.returns-in_err-resolve-clause-bound
+returns-in_err-resolve-clause-bound g c = let s = c.loop-script.invariant.so_far in come_up_to _ _ _ c.loop-script.script c.section.new.self.parts s.0 s.1 c.section.ensures.taken

@@ -4,7 +4,7 @@ use Rattle.std.proofs.lemmas.Result.{err_from_is_err_and}
 use Rattle.shelf.specs.declared.report.Report.{Report}
 use Rattle.replay_main.specs.declared.fault.Fault.{Fault}
 use Rattle.replay_main.specs.Faults.{IsJudgingFault}
-use Rattle.replay_main.proofs.EngineRan.{ran_begins, ran_over, replayed_whole, replayed_fits, replayed_covers}
+use Rattle.replay_main.proofs.EngineRan.{ran_begins, ran_over, replayed_whole, replayed_small, replayed_covers}
 use Rattle.replay_main.proofs.Outsides.{err_is}
 use Rattle.replay_main.proofs.on_engine.replayed_on_engine.Goals as goal
 
@@ -46,15 +46,15 @@ returns-clause-report g c =
       replayed_whole at.0 h c.run_all.new.script.counts c.in_ok-engine.engine c.in_ok-crew.crew c.run_all.new.sections c.ended.result rest.0 at.2 rest.1 rest.2 laws.honest laws.told laws.serial _ _ c.ended.ensures.told,
     )
 
-pub returns-clause-sums : goal.returns-clause-sums
-returns-clause-sums g c =
+pub returns-clause-small : goal.returns-clause-small
+returns-clause-small g c =
     let e = c.in_ok-header.ensures in
     let h = c.in_ok-header.header in
     let begins = ran_begins _ _ c.in_ok-header.script h c.in_ok-engine.engine c.in_ok-engine.crew c.new-sections.result e.come e.header e.counts e.within c.in_ok-engine.ensures.opened c.new-sections.ensures in
     let ran = c.in_ok-crew.ensures.ran _ h begins in
     let at = ran_over _ _ c.run_all.new.script h c.in_ok-engine.engine c.in_ok-crew.crew c.run_all.new.sections ran.0 ran.1 in
     let rest = c.ended.ensures.rest in
-    replayed_fits at.0 h c.run_all.new.script.counts c.in_ok-engine.engine c.in_ok-crew.crew c.run_all.new.sections c.ended.result rest.0 at.2 rest.1 rest.2 c.replays_can_be_told.ensures.fits
+    replayed_small at.0 h c.run_all.new.script.counts c.in_ok-engine.engine c.in_ok-crew.crew c.run_all.new.sections c.ended.result rest.0 at.2 rest.1 rest.2 c.honest_sums_are_small.ensures c.replays_on_engines.ensures.honest
 
 pub returns-clause-covers : goal.returns-clause-covers
 returns-clause-covers g c =
@@ -64,4 +64,16 @@ returns-clause-covers g c =
     let ran = c.in_ok-crew.ensures.ran _ h begins in
     let at = ran_over _ _ c.run_all.new.script h c.in_ok-engine.engine c.in_ok-crew.crew c.run_all.new.sections ran.0 ran.1 in
     let rest = c.ended.ensures.rest in
-    replayed_covers at.0 h c.run_all.new.script.counts c.in_ok-engine.engine c.in_ok-crew.crew c.run_all.new.sections c.ended.result rest.0 at.2 rest.1 rest.2 c.replays_can_be_told.ensures.covers
+    replayed_covers at.0 h c.run_all.new.script.counts c.in_ok-engine.engine c.in_ok-crew.crew c.run_all.new.sections c.ended.result rest.0 at.2 rest.1 rest.2 c.replay_deletions_are_covered.ensures
+
+pub returns-in_err-crew-clause-bound : goal.returns-in_err-crew-clause-bound
+returns-in_err-crew-clause-bound g c =
+    let e = c.in_ok-header.ensures in
+    c.run_all.ensures.bound _ c.in_ok-header.header
+    (ran_begins _ _ c.in_ok-header.script c.in_ok-header.header c.in_ok-engine.engine c.in_ok-engine.crew c.new-sections.result e.come e.header e.counts e.within c.in_ok-engine.ensures.opened c.new-sections.ensures)
+
+pub returns-clause-bound : goal.returns-clause-bound
+returns-clause-bound g c =
+    let e = c.in_ok-header.ensures in
+    c.run_all.ensures.bound _ c.in_ok-header.header
+    (ran_begins _ _ c.in_ok-header.script c.in_ok-header.header c.in_ok-engine.engine c.in_ok-engine.crew c.new-sections.result e.come e.header e.counts e.within c.in_ok-engine.ensures.opened c.new-sections.ensures)

@@ -2,6 +2,7 @@ use Rattle.std.proofs.Common.{◌≡◌, ◌∙◌, ℕ, List, Option, ap, sym, 
 use Rattle.std.proofs.lemmas.Result.{err_from_is_err_and}
 use Rattle.replay_main.specs.declared.incoming.Incoming.{Incoming}
 use Rattle.replay_main.specs.OnEngine.{IsCallsFault, RanSoFar}
+use Rattle.replay_main.proofs.Taking.{come_up_to}
 use Rattle.replay_main.proofs.Coming.{may_come, section_shorter}
 use Rattle.replay_main.proofs.Counting.{capture_small}
 use Rattle.replay_main.proofs.EngineRan.{may_run, ran_goes_on, ran_fails, ran_lacks_calls}
@@ -92,3 +93,18 @@ returns-clause-ran g c = λ was header so.
           (subst (λ (l : Option (List ℕ)). RanSoFar was l c.loop-crew.script header c.args.engine.now c.loop-crew.crew c.loop-crew.sections) (sym left) now),
       ap (λ (i : Incoming). i.is_over) end.1 ∙ end.0,
     )
+
+pub returns-in_err-section-clause-bound : goal.returns-in_err-section-clause-bound
+returns-in_err-section-clause-bound g c = λ was header so.
+    let now = c.loop-crew.invariant.so_far was header so in
+    come_up_to was _ _ c.loop-crew.script c.section.new.self.parts now.0 now.1 c.section.ensures.taken
+
+pub returns-in_err-crew-clause-bound : goal.returns-in_err-crew-clause-bound
+returns-in_err-crew-clause-bound g c = λ was header so.
+    let now = c.loop-crew.invariant.so_far was header so in
+    come_up_to was _ _ c.loop-crew.script c.section.new.self.parts now.0 now.1 c.section.ensures.taken
+
+pub returns-clause-bound : goal.returns-clause-bound
+returns-clause-bound g c = λ was header so.
+    let now = c.loop-crew.invariant.so_far was header so in
+    come_up_to was _ _ c.loop-crew.script c.section.new.self.parts now.0 now.1 c.section.ensures.taken

@@ -3,7 +3,7 @@ use Rattle.std.proofs.lemmas.Result.{err_from_is_err_and}
 use Rattle.desk_core.specs.Ranges.{AreApps}
 use Rattle.replay_main.proofs.Apps.{header_apps}
 use Rattle.replay_main.proofs.Outsides.{err_is}
-use Rattle.replay_main.proofs.Replaying.{room_at_end, plain_whole, plain_fits, plain_covers}
+use Rattle.replay_main.proofs.Replaying.{room_at_end, plain_whole, plain_small, plain_covers}
 use Rattle.replay_main.proofs.Coming.{replayed_begins, replayed_over}
 use Rattle.replay_main.proofs.replay.replayed.Goals as goal
 
@@ -49,15 +49,15 @@ returns-clause-report g c =
           c.serial_is_honest.ensures,
     )
 
-pub returns-clause-sums : goal.returns-clause-sums
-returns-clause-sums g c =
+pub returns-clause-small : goal.returns-clause-small
+returns-clause-small g c =
     let n = c.run_next.new in
     let h = c.in_ok-header.header in
     let first = c.in_ok-plain.plain in
     let now = c.in_ok-run_next.ensures.goes_on _ h first c.loop-sections.invariant.so_far in
     let at = replayed_over _ _ n.script h first n.plain n.sections now (c.in_ok-run_next.ensures.over c.if-branch.false) in
-    plain_fits at.0 h n.script.counts first n.plain n.sections c.in_ok-report.report at.2 c.in_ok-plain.ensures.keeps c.in_ok-plain.ensures.sizes (c.in_ok-plain.ensures.privileged ∙ c.as_slice.ensures) c.in_ok-report.ensures
-    c.serial_can_be_told.ensures.fits
+    plain_small at.0 h n.script.counts first n.plain n.sections c.in_ok-report.report at.2 c.in_ok-plain.ensures.keeps c.in_ok-plain.ensures.sizes (c.in_ok-plain.ensures.privileged ∙ c.as_slice.ensures) c.in_ok-report.ensures
+    c.honest_sums_are_small.ensures c.serial_is_honest.ensures
 
 pub returns-clause-covers : goal.returns-clause-covers
 returns-clause-covers g c =
@@ -67,4 +67,13 @@ returns-clause-covers g c =
     let now = c.in_ok-run_next.ensures.goes_on _ h first c.loop-sections.invariant.so_far in
     let at = replayed_over _ _ n.script h first n.plain n.sections now (c.in_ok-run_next.ensures.over c.if-branch.false) in
     plain_covers at.0 h n.script.counts first n.plain n.sections c.in_ok-report.report at.2 c.in_ok-plain.ensures.keeps c.in_ok-plain.ensures.sizes (c.in_ok-plain.ensures.privileged ∙ c.as_slice.ensures) c.in_ok-report.ensures
-    c.serial_can_be_told.ensures.covers
+    c.serial_deletions_are_covered.ensures
+
+pub returns-in_err-run_next-clause-bound : goal.returns-in_err-run_next-clause-bound
+returns-in_err-run_next-clause-bound g c = c.run_next.ensures.bound _ c.in_ok-header.header c.in_ok-plain.plain c.loop-sections.invariant.so_far
+
+pub returns-in_err-report-clause-bound : goal.returns-in_err-report-clause-bound
+returns-in_err-report-clause-bound g c = c.run_next.ensures.bound _ c.in_ok-header.header c.in_ok-plain.plain c.loop-sections.invariant.so_far
+
+pub returns-clause-bound : goal.returns-clause-bound
+returns-clause-bound g c = c.run_next.ensures.bound _ c.in_ok-header.header c.in_ok-plain.plain c.loop-sections.invariant.so_far

@@ -1,6 +1,7 @@
 use Rattle.std.proofs.Common.{◌≡◌, ◌∙◌, ap, sym, Err}
 use Rattle.std.proofs.lemmas.Result.{err_from_is_err_and}
 use Rattle.captures.specs.Lent.{section_calls}
+use Rattle.replay_main.proofs.Taking.{come_up_to}
 use Rattle.replay_main.proofs.Counting.{capture_small}
 use Rattle.replay_main.proofs.Outsides.{err_is, some_is}
 use Rattle.replay_main.proofs.Replaying.{room_for, phases_fit}
@@ -58,3 +59,21 @@ pub returns-in_ok-push-in-Some-clause-longer : goal.returns-in_ok-push-in-Some-c
 returns-in_ok-push-in-Some-clause-longer g c = λ ran.
     let o = c.in_ok-section.ensures in
     section_shorter c.args.script.now.counts c.section.new.self.counts c.in-Some.section (some_is _ o.counts c.in-Some.is) (some_is _ o.within c.in-Some.is)
+
+pub returns-in_err-section-clause-bound : goal.returns-in_err-section-clause-bound
+returns-in_err-section-clause-bound g c = λ was header first so. come_up_to was _ _ c.args.script.now c.section.new.self.parts so.0 so.1 c.section.ensures.taken
+
+pub returns-in_err-calls-in-Some-clause-bound : goal.returns-in_err-calls-in-Some-clause-bound
+returns-in_err-calls-in-Some-clause-bound g c = λ was header first so. come_up_to was _ _ c.args.script.now c.section.new.self.parts so.0 so.1 c.section.ensures.taken
+
+pub returns-in_err-out-in-Some-clause-bound : goal.returns-in_err-out-in-Some-clause-bound
+returns-in_err-out-in-Some-clause-bound g c = λ was header first so. come_up_to was _ _ c.args.script.now c.section.new.self.parts so.0 so.1 c.section.ensures.taken
+
+pub returns-in_err-push-in-Some-clause-bound : goal.returns-in_err-push-in-Some-clause-bound
+returns-in_err-push-in-Some-clause-bound g c = λ was header first so. come_up_to was _ _ c.args.script.now c.section.new.self.parts so.0 so.1 c.section.ensures.taken
+
+pub returns-in-None-clause-bound : goal.returns-in-None-clause-bound
+returns-in-None-clause-bound g c = λ was header first so. come_up_to was _ _ c.args.script.now c.section.new.self.parts so.0 so.1 c.section.ensures.taken
+
+pub returns-in_ok-push-in-Some-clause-bound : goal.returns-in_ok-push-in-Some-clause-bound
+returns-in_ok-push-in-Some-clause-bound g c = λ was header first so. come_up_to was _ _ c.args.script.now c.section.new.self.parts so.0 so.1 c.section.ensures.taken

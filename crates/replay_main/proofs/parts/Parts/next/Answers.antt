@@ -1,5 +1,6 @@
 use Rattle.std.proofs.Common.{arith, rules}
 use Rattle.replay_main.proofs.Feeding.{read_on}
+use Rattle.replay_main.proofs.Taking.{taken_more}
 use Rattle.replay_main.proofs.parts.Parts.next.Goals as goal
 
 pub loop-bytes-smaller : goal.loop-bytes-smaller
@@ -14,5 +15,10 @@ loop-bytes-preserved g c =
     record {
       reader = c.refill.ensures.reader;
       more = read_on _ _ _ c.args.self.now c.loop-bytes.self c.cut.new.self c.refill.new.self c.loop-bytes.invariant.more (search rules) c.cut.ensures.count e.cutter e.read e.counted;
+      taken = taken_more _ _ _ c.args.self.now c.loop-bytes.self c.cut.new.self c.refill.new.self c.loop-bytes.invariant.taken c.cut.ensures.count c.refill.ensures.taken;
       count = omega (arith, c.loop-bytes.invariant.count, c.refill.ensures.faults);
     }
+
+pub returns-in_err-refill-clause-taken : goal.returns-in_err-refill-clause-taken
+returns-in_err-refill-clause-taken g c =
+    taken_more _ _ _ c.args.self.now c.loop-bytes.self c.cut.new.self c.refill.new.self c.loop-bytes.invariant.taken c.cut.ensures.count c.refill.ensures.taken
