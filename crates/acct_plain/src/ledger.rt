@@ -45,6 +45,8 @@ impl<K: Ord + Copy> Ledger<K> {
 
     /// Adds an amount at a key. It is full where the key is new and there are as many keys as the limit.
     /// Where memory is wanting the ledger stays as it was.
+    // Each packet makes two adds, and what they answer is looked at at once.
+    #[inline(always)]
     pub fn add(&mut self, limit: u32, key: K, more: &Amount) -> Result<Added, AllocError>
         requires room { HasRoom (plus (amount_of K.cmp self.old key) more.now) }
         ensures ok { IfOk result (λ added. Adds K.cmp self.old self.new limit key more.now (is_landed added.mark)) }
