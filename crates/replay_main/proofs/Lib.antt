@@ -7,6 +7,7 @@ pub mod Judging
 pub mod Arriving
 pub mod Feeding
 pub mod Taking
+pub mod Unkept
 pub mod Coming
 pub mod FewCharges
 pub mod Summing

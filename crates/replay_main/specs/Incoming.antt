@@ -4,16 +4,23 @@ use Rattle.std.specs.Io.KnownBytes.{Consumes, IsAtEnd}
 use Rattle.script_text.specs.declared.header.Header.{Header}
 use Rattle.script_text.specs.declared.limits.Tally.{Tally}
 use Rattle.script_text.specs.declared.place.Place.TheVariants.{Next}
-use Rattle.script_text.specs.Limits.{tally_before}
-use Rattle.script_text.specs.Faults.{BeginsSection, FailsAt, SyntaxAt, LimitAt}
+use Rattle.script_text.specs.declared.section.Section.{Section}
+use Rattle.script_text.specs.declared.limits.Counts.{Counts}
+use Rattle.script_text.specs.Limits.{tally_before, counts_after}
+use Rattle.script_text.specs.Parts.{section_text}
+use Rattle.script_text.specs.Script.{IsNextSection}
+use Rattle.script_text.specs.Counted.{HasNoCapture}
+use Rattle.script_text.specs.Faults.{BeginsSection, IsPart, FailsAt, SyntaxAt, LimitAt}
 use Rattle.script_text.specs.Cuts.{EndsLine, IsUncut}
 use Rattle.shelf.specs.declared.report.SectionOut.{SectionOut}
 use Rattle.acct_plain.specs.Kept.{Tables}
 use Rattle.replay_main.specs.declared.parts.Parts.{Parts}
 use Rattle.replay_main.specs.declared.incoming.Incoming.{Incoming}
+use Rattle.replay_main.specs.declared.incoming.Counted.{Counted}
+use Rattle.replay_main.specs.declared.incoming.Counted.TheVariants as counted
 use Rattle.replay_main.specs.declared.fault.Fault.{Fault}
 use Rattle.replay_main.specs.declared.fault.Fault.TheVariants as fault
-use Rattle.replay_main.specs.Reached.{IsReplayedTo}
+use Rattle.replay_main.specs.Reached.{IsWithin, IsReplayedTo}
 
 -- The bytes of the piece that was read last which the cutter was not fed.
 abbrev pub unfed : Parts → List ℕ
@@ -77,6 +84,35 @@ pub record HasCome (was now : Option (List ℕ)) (i : Incoming) (front : List �
 pub record IsComing (i : Incoming) : Type 0 where
   pub reader : IsReader i.parts
   pub begins : i.is_over ≡ false → BeginsSection (ahead i.parts)
+
+-- ---- a script of which the counts alone are wanted
+
+-- The bytes are this section, up to where the next one begins or they end, and these are the counts with it.
+pub record IsCountedSection (before : Counts) (bytes : List ℕ) (s : Section) (counts : Counts) : Type 0 where
+  pub next : IsNextSection before s
+  pub counts_are : counts ≡ counts_after before s
+  pub within : IsWithin counts
+  pub spelled : IsPart (section_text s) bytes
+
+-- The same of a section which has nothing to do with a capture, and of one that was kept.
+abbrev pub IsCountedPart : Counts → List ℕ → Counted → Counts → Type 0
+IsCountedPart before bytes counted.Alone counts = (s : Section) × IsCountedSection before bytes s counts × HasNoCapture s
+IsCountedPart before bytes (counted.Kept s) counts = IsCountedSection before bytes s counts
+
+-- A section was taken off what comes in, and counted.
+pub record TakesSection (was now : Option (List ℕ)) (old new : Incoming) (s : Section) : Type 0 where
+  pub next : IsNextSection old.counts s
+  pub counts_are : new.counts ≡ counts_after old.counts s
+  pub within : IsWithin new.counts
+  pub takes : TakesPart was now old.parts new.parts (section_text s) new.is_over
+  pub open_before : old.is_over ≡ false
+
+-- So was one which has nothing to do with a capture, or one that was kept.
+abbrev pub HasCounted : Option (List ℕ) → Option (List ℕ) → Incoming → Incoming → Counted → Type 0
+HasCounted was now old new counted.Alone = (s : Section) × TakesSection was now old new s × HasNoCapture s
+HasCounted was now old new (counted.Kept s) = TakesSection was now old new s
+
+-- ---- faults
 
 -- The line of a section that decides, by its fault.
 abbrev pub FailsIn : Tally → ℕ → List ℕ → Fault → Type 0

@@ -9,7 +9,7 @@ ghost use Rattle.replay_main.specs.Run.{WasSo, DecidesOn, IsOfText};
 ghost use Rattle.std.specs.Prelude.{List, ℕ};
 
 use crate::fault::Fault;
-use crate::incoming::Incoming;
+use crate::incoming::{Counted, Incoming};
 use captures::resolve;
 use outside::Source;
 use script_text::{Counts, script_by_parts};
@@ -26,8 +26,13 @@ pub fn checked<S: Source>(alloc: Global, source: &mut S) -> Result<Counts, Fault
 {
     script_by_parts();
     let (_, mut script) = Incoming::begin(alloc, source)?;
-    while let Some(section) = script.section(alloc, source)? {
-        let _ = resolve(alloc, &section)?;
+    while let Some(counted) = script.count(alloc, source)? {
+        match counted {
+            Counted::Alone => {}
+            Counted::Kept(section) => {
+                let _ = resolve(alloc, &section)?;
+            }
+        }
     }
     Ok(script.counts())
 }

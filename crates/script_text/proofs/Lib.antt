@@ -8,6 +8,8 @@ pub mod Lines
 pub mod NextLines
 pub mod Orders
 pub mod PartLines
+pub mod Growing
+pub mod Passing
 pub mod Readings
 pub mod Takings
 pub mod CutLines

@@ -9,7 +9,7 @@ use Rattle.script_text.specs.declared.place.Place.TheVariants as places
 use Rattle.script_text.specs.declared.header.Header.{Header}
 use Rattle.script_text.specs.declared.draft.Draft.{Draft}
 use Rattle.script_text.specs.Lanes.{ComesNext}
-use Rattle.script_text.specs.Order.{follows, names_in, takes_map, takes_priv, takes_if, is_start, is_next, is_section, is_lane, is_desk, is_open}
+use Rattle.script_text.specs.Order.{follows, place_of, is_inside, names_in, takes_map, takes_priv, takes_if, is_start, is_next, is_section, is_lane, is_desk, is_open}
 use Rattle.script_text.specs.Drafts.{HeaderAt, HeaderTakes, DraftAt, DraftTakes, IsBare}
 use Rattle.script_text.proofs.NextLines.{true_false}
 
@@ -33,7 +33,7 @@ header_place places.Section h at = absurd at
 header_place places.Lane h at = absurd at
 header_place places.Desk h at = absurd at
 
-neither : (b : Bool) → b ≡ true → b ≡ false → ⊥
+pub neither : (b : Bool) → b ≡ true → b ≡ false → ⊥
 neither b e f = true_false (sym e ∙ f)
 
 map_taken : (p : Place) (h : Header) (name : MapName) → HeaderAt p h → takes_map p name ≡ true → (h.privileged ≡ []) × (h.names ≡ [])
@@ -71,12 +71,12 @@ header_takes p h lines.Desk at e = neither (is_open p) e (header_place p h at).n
 header_takes p h (lines.Command c) at e = neither (is_desk p) e (header_place p h at).no_desk
 
 -- a place of a section
-record IsSectionPlace (p : Place) : Type 0 where
-  no_start : is_start p ≡ false
-  no_next : is_next p ≡ false
-  no_map : (name : MapName) → takes_map p name ≡ false
-  no_priv : (app : ℕ) → takes_priv p app ≡ false
-  no_if : (iface : ℕ) → takes_if p iface ≡ false
+pub record IsSectionPlace (p : Place) : Type 0 where
+  pub no_start : is_start p ≡ false
+  pub no_next : is_next p ≡ false
+  pub no_map : (name : MapName) → takes_map p name ≡ false
+  pub no_priv : (app : ℕ) → takes_priv p app ≡ false
+  pub no_if : (iface : ℕ) → takes_if p iface ≡ false
 
 section_place : (p : Place) (n : ℕ) (d : Draft) → DraftAt p n d → IsSectionPlace p
 section_place places.Start n d at = absurd at
@@ -186,3 +186,29 @@ first_is_section (lines.Command c) e = absurd (true_false (sym e))
 -- the same place and the same number
 pub at_same : (p q : Place) (n m : ℕ) (d : Draft) → p ≡ q → n ≡ m → DraftAt q m d → DraftAt p n d
 at_same p q n m d e f at = subst (λ (r : Place). DraftAt r n d) (sym e) (subst (λ (k : ℕ). DraftAt q k d) (sym f) at)
+
+-- ---- a section that is not kept
+
+inside_place : (p : Place) → is_inside p ≡ true → IsSectionPlace p
+inside_place places.Start e = absurd (true_false (sym e))
+inside_place places.Next e = absurd (true_false (sym e))
+inside_place places.Version e = absurd (true_false (sym e))
+inside_place (places.Map m) e = absurd (true_false (sym e))
+inside_place (places.Priv a) e = absurd (true_false (sym e))
+inside_place (places.If i) e = absurd (true_false (sym e))
+inside_place places.Section e = record { no_start = refl; no_next = refl; no_map = λ _. refl; no_priv = λ _. refl; no_if = λ _. refl }
+inside_place places.Lane e = record { no_start = refl; no_next = refl; no_map = λ _. refl; no_priv = λ _. refl; no_if = λ _. refl }
+inside_place places.Desk e = record { no_start = refl; no_next = refl; no_map = λ _. refl; no_priv = λ _. refl; no_if = λ _. refl }
+
+-- a line inside a section leaves it inside, and gives no name
+pub inside_next : (p : Place) (l : Line) → is_inside p ≡ true → follows p l ≡ true → (is_inside (place_of l) ≡ true) × (names_in (l ∷ []) ≡ [])
+inside_next p lines.Version inside e = absurd (neither (is_start p) e (inside_place p inside).no_start)
+inside_next p (lines.Map name n) inside e = absurd (neither (takes_map p name) e ((inside_place p inside).no_map name))
+inside_next p (lines.Priv app) inside e = absurd (neither (takes_priv p app) e ((inside_place p inside).no_priv app))
+inside_next p (lines.If iface name) inside e = absurd (neither (takes_if p iface) e ((inside_place p inside).no_if iface))
+inside_next p lines.Section inside e = absurd (neither (is_next p) e (inside_place p inside).no_next)
+inside_next p (lines.Cap bytes) inside e = (refl, refl)
+inside_next p lines.Lane inside e = (refl, refl)
+inside_next p (lines.Hook hook) inside e = (refl, refl)
+inside_next p lines.Desk inside e = (refl, refl)
+inside_next p (lines.Command c) inside e = (refl, refl)

@@ -1,10 +1,11 @@
 -- A part as far as it was read, for the contracts of the parser's parts.
-use Rattle.std.specs.Prelude.{◌≡◌, ◌≢◌, ℕ, ◌+◌, List, [], ◌∷◌, ◌++◌, length, map, Option, Some, None, IsSome, IsSomeAnd}
+use Rattle.std.specs.Prelude.{true, ◌≡◌, ◌≢◌, ℕ, ◌+◌, ◌<◌, List, [], ◌∷◌, ◌++◌, length, map, Option, Some, None, IsSome, IsSomeAnd}
 use Rattle.std.specs.List.{AllByRecursion, flat_map}
 use Rattle.script_text.specs.declared.line.Line.{Line}
 use Rattle.script_text.specs.declared.line.Line.TheVariants as lines
 use Rattle.script_text.specs.declared.place.Place.{Place}
 use Rattle.script_text.specs.declared.place.Place.TheVariants as places
+use Rattle.script_text.specs.declared.place.Place.TheVariants.{Next}
 use Rattle.script_text.specs.declared.limits.Tally.{Tally}
 use Rattle.script_text.specs.declared.header.Header.{Header}
 use Rattle.script_text.specs.declared.section.Section.{Section}
@@ -12,9 +13,10 @@ use Rattle.script_text.specs.declared.draft.Draft.{Draft}
 use Rattle.script_text.specs.declared.reader.Reader.{Reader}
 use Rattle.script_text.specs.Lines.{IsLine, spelled, LaneLine}
 use Rattle.script_text.specs.Lanes.{ComesNext}
-use Rattle.script_text.specs.Order.{InOrder, names_in, place_behind}
+use Rattle.script_text.specs.Order.{InOrder, names_in, place_behind, is_inside}
 use Rattle.script_text.specs.Parts.{cap_lines, lines_text, lane_lines, desk_lines, desk_numbers, line_numbers, given_numbers, section_lines, sum_of}
 use Rattle.script_text.specs.Faults.{IsNext}
+use Rattle.script_text.specs.Counted.{NeedsCapture}
 use Rattle.script_text.specs.Limits.{passed, added, tallied, IsSmall, KeepLimits}
 
 -- No line stands at the front of the text.
@@ -118,3 +120,13 @@ pub record IsReadTo (from : Place) (t : Tally) (first : ℕ) (bytes : List ℕ) 
   pub read : IsRead from t bytes ls r.place names r.tally r.rest.now
   pub number : r.number ≡ first + length ls
   pub small : IsSmall r.tally
+
+-- ---- a section that is not kept
+
+-- The cursor stands behind the first lines of a section, none of which has to do with a capture.
+pub record IsPassed (t : Tally) (first : ℕ) (bytes : List ℕ) (r : Reader) : Type 0 where
+  pub front : List Line
+  pub read : IsReadTo Next t first bytes front [] r
+  pub some : 0 < length front
+  pub inside : is_inside r.place ≡ true
+  pub free : AllByRecursion (λ l. NeedsCapture l → ⊥) front

@@ -6,6 +6,7 @@ pub mod Parts
 pub mod Limits
 pub mod Faults
 pub mod Script
+pub mod Counted
 pub mod Cuts
 pub mod Pieces
 pub mod Digits

@@ -79,6 +79,13 @@ is_open places.Section = true
 is_open places.Lane = true
 is_open p = false
 
+-- Inside a section: behind its first line, a `cap` line, or a line of its lanes or of its desk.
+abbrev pub is_inside : Place → Bool
+is_inside places.Section = true
+is_inside places.Lane = true
+is_inside places.Desk = true
+is_inside p = false
+
 -- Whether a line may stand at a place.
 abbrev pub follows : Place → Line → Bool
 follows p lines.Version = is_start p

@@ -4,9 +4,11 @@
 //! A reader starts in `specs/`: `Lines` has a table of the lines, with the spelling and the range of each field;
 //! `Order` says which line may stand where, `Parts` of which lines a header and a section are made, `Limits` what is
 //! counted and how far, `Faults` which line decides on a part, `Script` what a whole script is and where a text is
-//! none, and `Cuts` where a text is cut into its parts. `laws` shows that these definitions mean what they say.
+//! none, `Counted` what is told of a section that is not kept, and `Cuts` where a text is cut into its parts. `laws`
+//! shows that these definitions mean what they say.
 #![tactic(auto)]
 
+mod counting;
 mod cutter;
 mod desk_line;
 mod digits;
@@ -31,6 +33,7 @@ mod section;
 mod spell;
 mod words;
 
+pub use counting::count_section;
 pub use cutter::{Cutter, Fed};
 pub use fault::{ScriptFault, Which};
 pub use header::{DEFAULT_SIZES, Header, IdList, MapLineList, parse_header};
