@@ -1,20 +1,19 @@
-//! Collections and deletions in order, and deletions beside hooks on another thread.
+//! Collections and deletions in order. Deletions beside hooks on other threads are tested by the tests of the program.
 
 ghost use Rattle.std.specs.Prelude.{◌≡◌, ◌<◌, ◌≤◌, ◌^◌, None, IfOk};
 ghost use Rattle.desk_regs.specs.Desks.{IsLevel as IsLevelDesk};
 ghost use Rattle.collector.specs.Collectors.{IsLevel, gathered_by};
 
 use crate::{CollectError, Collector, collect, delete_tag_data};
-use acct_base::{Amount, Dir, Label, RegSizes, Row};
+use acct_base::{Amount, Dir, Label, RegSizes};
 use desk_core::{Book, Command, Reply};
 use desk_regs::Desk;
-use grace_rows::{Grace, HookSeat, Paired, SnapshotRoom};
+use grace_rows::{Grace, HookSeat, Paired};
 use reg_words::Regs;
 use shelf::Shelf;
 use std::alloc::{AllocError, Global};
 use std::sync::Wait;
 use std::test::Fail;
-use std::thread;
 use total_rows::{TotalSeat, Totals};
 
 const UID: u32 = 10050;
@@ -115,7 +114,6 @@ fn open(
     ensures regs { IfOk result (λ t. t.1.writer.origin ≡ t.0.regs) }
     ensures level { IfOk result (λ t. IsLevel (gathered_by t.2) × IsLevelDesk t.1) }
     ensures hook { IfOk result (λ t. (t.3.table ≡ t.0.paired.table) × (t.3.entry ≡ None) × (t.4.table ≡ t.0.apps.table)) }
-    ensures rows { IfOk result (λ t. t.0.paired.rows ≡ 4) }
 {
     let (paired, hook, seat) = Paired::new(alloc, 4, calls)?;
     let (apps, mut adder) = Totals::new(alloc, 4, calls)?;
@@ -125,33 +123,74 @@ fn open(
     Ok((parts, desk, collector, hook, adder))
 }
 
-#[test]
-fn deletions_take_rows_and_record_apps(rt: HostRuntime) -> Result<(), Fail> {
-    let alloc = rt.alloc();
-    let (parts, mut desk, collector, mut hook, mut adder) = open(alloc, 4)?;
+// Tags a socket of the uid, and counts a packet of it.
+fn count_tagged(
+    alloc: Global,
+    parts: &Parts,
+    desk: &mut Desk,
+    hook: &mut HookSeat,
+    adder: &mut TotalSeat,
+) -> Result<Reply, AllocError>
+    requires desk { IsLevelDesk desk.old × (desk.old.writer.origin ≡ parts.now.regs) }
+    requires hook { (hook.old.table ≡ parts.now.paired.table) × (hook.old.entry ≡ None) }
+    requires adder { adder.old.table ≡ parts.now.apps.table }
+    ensures desk { IsLevelDesk desk.new × (desk.new.writer.origin ≡ parts.now.regs) }
+{
     let tag = Command::Tag {
         caller: 1000,
         cookie: 77,
         uid: UID,
         tag: 7,
     };
-    assert_eq!(rt; desk.command(alloc, &parts.regs, &tag)?, Reply::Done);
-    charge(&parts.paired, &mut hook, 7);
+    charge(&parts.paired, hook, 7);
     if adder.left() > 0 {
-        parts.apps.add(&mut adder, UID, Dir::Ingress, 1, 60);
+        parts.apps.add(adder, UID, Dir::Ingress, 1, 60);
     }
-    let (collector, first) = delete(&rt, alloc, &parts, collector, &mut desk, 1000, 7);
-    let (collector, second) = delete(&rt, alloc, &parts, collector, &mut desk, 1000, 0);
-    let (collector, third) = delete(&rt, alloc, &parts, collector, &mut desk, 1000, 0);
-    let (collector, perm) = delete(&rt, alloc, &parts, collector, &mut desk, UID, 0);
-    assert_eq!(rt; (first, second), (Ok(Reply::Done), Ok(Reply::Done)));
-    assert_eq!(rt; (third, perm), (Ok(Reply::Done), Ok(Reply::Perm)));
+    desk.command(alloc, &parts.regs, &tag)
+}
+
+/// What four deletions in turn were answered.
+type Answers = [Result<Reply, CollectError>; 4];
+
+// Deletes the uid under its tag, twice without a tag, and once for a caller who may not.
+fn delete_in_turn<R: Wait>(
+    rt: &R,
+    alloc: Global,
+    parts: &Parts,
+    collector: Collector,
+    desk: &mut Desk,
+) -> (Collector, Answers)
+    requires maps { (collector.seat.table ≡ parts.now.paired.table) × (collector.apps.table ≡ parts.now.apps.table) }
+    requires regs { desk.old.writer.origin ≡ parts.now.regs }
+    requires level { IsLevel (gathered_by collector) × IsLevelDesk desk.old }
+{
+    let (collector, first) = delete(rt, alloc, parts, collector, desk, 1000, 7);
+    let (collector, second) = delete(rt, alloc, parts, collector, desk, 1000, 0);
+    let (collector, third) = delete(rt, alloc, parts, collector, desk, 1000, 0);
+    let (collector, perm) = delete(rt, alloc, parts, collector, desk, UID, 0);
+    (collector, [first, second, third, perm])
+}
+
+// The same once a packet was counted under the tag: what the deletions were answered, and what the shelf has then.
+fn delete_counted<R: Wait>(rt: &R, alloc: Global) -> Result<(Answers, Shelf), AllocError> {
+    let (parts, mut desk, collector, mut hook, mut adder) = open(alloc, 4)?;
+    count_tagged(alloc, &parts, &mut desk, &mut hook, &mut adder)?;
+    let (collector, answers) = delete_in_turn(rt, alloc, &parts, collector, &mut desk);
+    let (_, _, shelf) = collector.into_parts();
+    Ok((answers, shelf))
+}
+
+#[test]
+fn deletions_take_rows_and_record_apps(rt: HostRuntime) -> Result<(), Fail> {
+    let (answers, shelf) = delete_counted(&rt, rt.alloc())?;
+    let done = Ok(Reply::Done);
+    assert_eq!(rt; answers, [done, done, done, Ok(Reply::Perm)]);
     let one = Some(Amount::counted(Dir::Ingress, 1, 60));
     let none = Some(Amount::zero());
-    assert_eq!(rt; rows_at(collector.shelf(), 0), Some((1, 1, None)));
-    assert_eq!(rt; rows_at(collector.shelf(), 1), Some((0, 0, one)));
-    assert_eq!(rt; rows_at(collector.shelf(), 2), Some((0, 0, none)));
-    assert_eq!(rt; (collector.phase(), desk.book().made()), (3, 2));
+    assert_eq!(rt; shelf.len(), 3);
+    assert_eq!(rt; rows_at(&shelf, 0), Some((1, 1, None)));
+    assert_eq!(rt; rows_at(&shelf, 1), Some((0, 0, one)));
+    assert_eq!(rt; rows_at(&shelf, 2), Some((0, 0, none)));
     Ok(())
 }
 
@@ -178,28 +217,37 @@ fn collect_often<R: Wait>(
     (collector, all)
 }
 
-#[test]
-fn the_last_phase_does_not_end(rt: HostRuntime) -> Result<(), Fail> {
-    let alloc = rt.alloc();
+// Collects 1,024 times, and begins once more: whether all phases ended, and what the last beginning was answered, with
+// the phase and the number of collections at the collector that came back.
+fn begin_too_often<R: Wait>(
+    rt: &R,
+    alloc: Global,
+) -> Result<(bool, Option<(CollectError, u32, u32)>), AllocError> {
     let (paired, _, seat) = Paired::new(alloc, 1, 1)?;
     let (apps, watcher) = Totals::new(alloc, 1, 1)?;
     let collector = Collector::new(alloc, seat, watcher);
-    let (collector, all) = collect_often(&rt, alloc, collector, &paired, &apps, 1024);
-    assert!(rt; all);
+    let (collector, all) = collect_often(rt, alloc, collector, &paired, &apps, 1024);
     match collector.begin(alloc, &paired) {
-        Ok(_begun) => assert!(rt; false),
-        Err(refused) => {
-            let (collector, error) = refused;
-            assert_eq!(rt; error, CollectError::PhasesSpent { phase: 1024 });
-            assert_eq!(rt; (collector.phase(), collector.shelf().len()), (1024, 1024));
+        Ok(_begun) => Ok((all, None)),
+        Err((collector, error)) => {
+            let phase = collector.phase();
+            Ok((all, Some((error, phase, collector.shelf().len()))))
         }
     }
-    Ok(())
 }
 
 #[test]
-fn a_collection_waits_for_the_call_inside(rt: HostRuntime) -> Result<(), Fail> {
-    let alloc = rt.alloc();
+fn the_last_phase_does_not_end(rt: HostRuntime) -> Result<(), Fail> {
+    let (all, refused) = begin_too_often(&rt, rt.alloc())?;
+    assert!(rt; all);
+    let spent = CollectError::PhasesSpent { phase: 1024 };
+    assert_eq!(rt; refused, Some((spent, 1024, 1024)));
+    Ok(())
+}
+
+// Begins a collection while a call is inside: what a poll says then and once the call left, and the phases of the
+// collector and of a hook that met it. None where the collection did not begin.
+fn collect_around_a_call(alloc: Global) -> Result<Option<(Grace, Grace, u32, u32)>, AllocError> {
     let (paired, mut hook, seat) = Paired::new(alloc, 2, 2)?;
     let (apps, watcher) = Totals::new(alloc, 1, 1)?;
     let collector = Collector::new(alloc, seat, watcher);
@@ -207,139 +255,29 @@ fn a_collection_waits_for_the_call_inside(rt: HostRuntime) -> Result<(), Fail> {
     match collector.begin(alloc, &paired) {
         Err(_) => {
             paired.exit(&mut hook, entry);
-            assert!(rt; false);
+            Ok(None)
         }
         Ok(mut it) => {
-            assert_eq!(rt; it.poll(&paired), Grace::Inside(1));
+            let inside = it.poll(&paired);
             paired.exit(&mut hook, entry);
-            assert_eq!(rt; it.poll(&paired), Grace::Clear);
+            if inside != Grace::Inside(1) {
+                return Ok(None);
+            }
+            let left = it.poll(&paired);
+            if left != Grace::Clear {
+                return Ok(None);
+            }
             let mut collector = it.finish(&paired, &apps, None);
-            assert_eq!(rt; (collector.phase(), collector.shelf().len()), (1, 1));
             paired.meet(&mut hook, collector.seat());
-            assert_eq!(rt; hook.phase(), 1);
-        }
-    }
-    Ok(())
-}
-
-/// How many packets are counted beside the collector: a third of them under the tag.
-const PACKETS: u32 = 300;
-
-// Counts all packets, and adds each to the uid's app.
-fn count_all(parts: &Parts, mut hook: HookSeat, mut adder: TotalSeat) -> (HookSeat, TotalSeat)
-    requires hook { (hook.table ≡ parts.now.paired.table) × (hook.entry ≡ None) }
-    requires adder { adder.table ≡ parts.now.apps.table }
-    ensures hook { (result.0.table ≡ parts.now.paired.table) × (result.0.entry ≡ None) }
-    ensures adder { result.1.table ≡ parts.now.apps.table }
-{
-    for packet in 0..PACKETS {
-        if adder.left() == 0 {
-            break;
-        }
-        parts.apps.add(&mut adder, UID, Dir::Ingress, 1, 60);
-        let tag = if packet % 3 == 0 { 7 } else { 0 };
-        charge(&parts.paired, &mut hook, tag);
-    }
-    (hook, adder)
-}
-
-/// How often the uid is deleted beside the hooks.
-const DELETIONS: u32 = 20;
-
-// Deletes the uid, with the tag and without it in turn, and says whether each deletion was done.
-fn delete_often<R: Wait>(
-    rt: &R,
-    alloc: Global,
-    parts: &Parts,
-    mut collector: Collector,
-    mut desk: Desk,
-) -> (Collector, bool)
-    requires maps { (collector.seat.table ≡ parts.now.paired.table) × (collector.apps.table ≡ parts.now.apps.table) }
-    requires regs { desk.writer.origin ≡ parts.now.regs }
-    requires level { IsLevel (gathered_by collector) × IsLevelDesk desk }
-    ensures maps { result.0.seat.table ≡ parts.now.paired.table }
-{
-    let mut all = true;
-    for turn in 0..DELETIONS {
-        let tag = if turn % 2 == 0 { 7 } else { 0 };
-        let (next, reply) = delete(rt, alloc, parts, collector, &mut desk, 1000, tag);
-        collector = next;
-        all = all && reply == Ok(Reply::Done);
-    }
-    (collector, all)
-}
-
-// The packets with the tag in rows, and those without it, added to these.
-fn with_rows(mut sums: (u64, u64), rows: &[Row]) -> (u64, u64) {
-    for row in rows {
-        let packets = row.amount.rx_packets;
-        if row.label.tag == 7 {
-            sums.0 = sums.0.saturating_add(packets);
-        } else {
-            sums.1 = sums.1.saturating_add(packets);
-        }
-    }
-    sums
-}
-
-// The same for all that stands on the shelf. The last of the three is what deletions recorded of the app.
-fn sums_of(shelf: &Shelf) -> (u64, u64, u64) {
-    let mut sums = (0, 0);
-    let mut recorded = 0u64;
-    for (snapshot, deletion) in shelf.phases() {
-        sums = with_rows(sums, snapshot.rows.as_slice());
-        if let Some(deletion) = deletion {
-            sums = with_rows(sums, deletion.rows.as_slice());
-            let app = deletion.app.unwrap_or(Amount::zero());
-            recorded = recorded.saturating_add(app.rx_packets);
-        }
-    }
-    (sums.0, sums.1, recorded)
-}
-
-// All packets of the rows on the shelf and of the live rows, and what deletions recorded. None where the hook's
-// seat lacks calls.
-fn closed_sums(
-    alloc: Global,
-    paired: Paired,
-    hook: HookSeat,
-    collector: Collector,
-) -> Result<Option<(u64, u64, u64)>, AllocError>
-    requires maps { (hook.table ≡ paired.table) × (collector.seat.table ≡ paired.table) }
-    requires outside { hook.entry ≡ None }
-    requires rows { paired.rows ≡ 4 }
-{
-    let (seat, _, shelf) = collector.into_parts();
-    let (tagged, untagged, recorded) = sums_of(&shelf);
-    let room = SnapshotRoom::new(alloc, 4)?;
-    match paired.close(hook, seat, room) {
-        Err(_) => Ok(None),
-        Ok(live) => {
-            let (tagged, untagged) = with_rows((tagged, untagged), live.rows.as_slice());
-            Ok(Some((tagged, untagged, recorded)))
+            Ok(Some((inside, left, collector.phase(), hook.phase())))
         }
     }
 }
 
-// The last deletion is without the tag, and comes before the last packet or after it.
 #[test]
-fn deletions_beside_hooks_lose_nothing(rt: HostRuntime) -> Result<(), Fail> {
-    let alloc = rt.alloc();
-    let (parts, desk, collector, hook, adder) = open(alloc, 300)?;
-    let (counted, deleted) = thread::join(
-        &rt,
-        || count_all(&parts, hook, adder),
-        || delete_often(&rt, alloc, &parts, collector, desk),
-    );
-    let (hook, _adder) = counted;
-    let (collector, all) = deleted;
-    assert!(rt; all);
-    assert_eq!(rt; collector.phase(), DELETIONS);
-    let Parts { paired, .. } = parts;
-    let sums = closed_sums(alloc, paired, hook, collector)?;
-    let (tagged, untagged, recorded) = sums.ok_or("calls are missing")?;
-    assert_eq!(rt; (tagged, untagged), (100, 300));
-    assert!(rt; recorded <= 300);
+fn a_collection_waits_for_the_call_inside(rt: HostRuntime) -> Result<(), Fail> {
+    let polls = collect_around_a_call(rt.alloc())?;
+    assert_eq!(rt; polls, Some((Grace::Inside(1), Grace::Clear, 1, 1)));
     Ok(())
 }
 

@@ -1,21 +1,19 @@
-//! The calls in order, and passes on threads beside a desk that writes and a collector that drains.
+//! The calls in order. Passes on threads, beside a desk and a collector, are tested where there are threads: by the tests
+//! of the program.
 
-ghost use Rattle.std.specs.Prelude.{◌≡◌, ◌≤◌, ◌<◌, ◌+◌, false, length, IfOk, IfSome};
+ghost use Rattle.std.specs.Prelude.{◌≡◌, ◌≤◌, ◌<◌, ◌+◌, length, IfOk};
 ghost use Rattle.acct_base.specs.Ranges.{AreSizes};
-ghost use Rattle.grace_rows.specs.Seats.{is_clear};
+ghost use Rattle.hook_engine.specs.Ends.{room_for};
 ghost use Rattle.hook_engine.specs.Tables.{AreSeatsOf};
 
 use crate::{CloseRoom, DeskSeats, Engine, EngineRest, NoTally, Pass, SeatsOut, Tally};
 use acct_base::{
     Amount, DOZABLE, Dir, Family, HookIn, IfaceIn, IfaceReceipt, Key, Label, ListReceipt, Mark,
-    OwnerEntry, Receipt, RegSizes, Row, STANDBY, Seen, Sizes, Snapshot, TagEntry, Uid, Verdict,
+    OwnerEntry, Receipt, RegSizes, Row, STANDBY, Seen, Sizes, TagEntry, Uid, Verdict,
 };
-use grace_rows::{CollectSeat, Flipped, Grace, SnapshotRoom};
 use reg_words::{Regs, Writer};
 use std::alloc::{AllocError, Global};
 use std::test::Fail;
-use std::thread;
-use std::thread::Threads;
 
 /// The usual sizes, and ten calls.
 const USUAL: Sizes = Sizes {
@@ -96,36 +94,57 @@ fn send(engine: &Engine, pass: &mut Pass, dir: Dir, sock_uid: Uid, cookie: u64, 
     engine.hook(pass, &call)
 }
 
-#[test]
-fn a_pass_that_lacks_calls_closes_nothing(rt: HostRuntime) -> Result<(), Fail> {
-    let (engine, mut pass, seats) = Engine::new(rt.alloc(), &USUAL)?;
+/// How much is left of an engine: the live phase, and the lengths of the lists.
+type Lengths = (u32, usize, usize, usize, usize);
+
+// The live phase, and how many rows, writes and totals are left.
+fn lengths(rest: &EngineRest) -> Lengths {
+    (
+        rest.live.phase,
+        rest.live.rows.len(),
+        rest.journal.len(),
+        rest.apps.len(),
+        rest.ifaces.len(),
+    )
+}
+
+// Joins the pass that was missing to the one that came back, and closes the engine with it.
+fn close_joined(out: SeatsOut, other: Pass) -> Option<Lengths>
+    requires pass { (out.pass.tables ≡ out.engine.tables) × (other.tables ≡ out.engine.tables) }
+    requires seats { AreSeatsOf out.engine.tables out.seats.writer out.seats.collect out.seats.apps }
+    requires room { out.room ≡ room_for out.engine.sizes }
+{
+    let SeatsOut {
+        engine,
+        mut pass,
+        seats,
+        room,
+        ..
+    } = out;
+    engine.join(&mut pass, other);
+    let rest = engine.close(pass, seats, room).ok()?;
+    Some(lengths(&rest))
+}
+
+// Closes an engine whose pass lacks three calls, and then with them. Gives what was missing, what the pass had and
+// had made, and what is left. None where the engine was closed at once.
+fn close_twice(alloc: Global) -> Result<Option<(u64, u64, u64, Option<Lengths>)>, AllocError> {
+    let room = CloseRoom::new(alloc, &USUAL)?;
+    let (engine, mut pass, seats) = open(alloc, &USUAL)?;
     let other = engine.split(&mut pass, 3);
-    let room = CloseRoom::new(rt.alloc(), &USUAL)?;
     match engine.close(pass, seats, room) {
-        Ok(_) => assert!(rt; false),
+        Ok(_) => Ok(None),
         Err(out) => {
-            let SeatsOut {
-                engine,
-                mut pass,
-                seats,
-                room,
-                missing,
-            } = out;
-            assert_eq!(rt; (missing, pass.left(), pass.made()), (3, 7, 0));
-            engine.join(&mut pass, other);
-            assert_eq!(rt; (pass.left(), pass.made()), (10, 0));
-            match engine.close(pass, seats, room) {
-                Err(_) => assert!(rt; false),
-                Ok(rest) => {
-                    assert_eq!(rt; (rest.live.phase, rest.live.rows.len()), (0, 0));
-                    assert_eq!(rt;
-                        (rest.journal.len(), rest.apps.len(), rest.ifaces.len()),
-                        (0, 0, 0)
-                    );
-                }
-            }
+            let (missing, left, made) = (out.missing, out.pass.left(), out.pass.made());
+            Ok(Some((missing, left, made, close_joined(out, other))))
         }
     }
+}
+
+#[test]
+fn a_pass_that_lacks_calls_closes_nothing(rt: HostRuntime) -> Result<(), Fail> {
+    let closed = close_twice(rt.alloc())?;
+    assert_eq!(rt; closed, Some((3, 7, 0, Some((0, 0, 0, 0, 0)))));
     Ok(())
 }
 
@@ -189,13 +208,19 @@ const OF_THE_UID: Receipt = Receipt {
     ..OF_THE_TAG
 };
 
-#[test]
-fn the_match_is_by_the_socket_and_the_charge_by_the_tag(rt: HostRuntime) -> Result<(), Fail> {
-    let (engine, mut pass, mut seats) = open(rt.alloc(), &SMALL)?;
-    tag_and_doze(engine.regs(), &mut seats.writer);
-    let tagged = send(&engine, &mut pass, Dir::Ingress, 10050, 77, 100);
-    let dropped = send(&engine, &mut pass, Dir::Ingress, 10060, 0, 100);
-    assert_eq!(rt; (tagged, dropped), (OF_THE_TAG, OF_THE_UID));
+// Tags and dozes, and sends a packet of the tagged socket and one of the tag's uid.
+fn send_both(engine: &Engine, pass: &mut Pass, writer: &mut Writer) -> (Receipt, Receipt)
+    requires from { (pass.old.tables ≡ engine.now.tables) × (writer.old.origin ≡ engine.now.tables.regs) }
+    requires left { 1 < pass.old.has.left }
+    ensures from { (pass.new.tables ≡ pass.old.tables) × (writer.new.origin ≡ writer.old.origin) }
+{
+    tag_and_doze(engine.regs(), writer);
+    let tagged = send(engine, pass, Dir::Ingress, 10050, 77, 100);
+    (tagged, send(engine, pass, Dir::Ingress, 10060, 0, 100))
+}
+
+// Whether both packets stand in their rows and in the app's total.
+fn counts_both(rest: &EngineRest) -> bool {
     let rows = [
         Row {
             label: PLAIN,
@@ -207,14 +232,24 @@ fn the_match_is_by_the_socket_and_the_charge_by_the_tag(rt: HostRuntime) -> Resu
         },
     ];
     let apps = [(10060, Amount::counted(Dir::Ingress, 2, 200))];
-    match close(rt.alloc(), engine, pass, seats, &SMALL)? {
-        None => assert!(rt; false),
-        Some(rest) => {
-            assert_eq!(rt; rest.live.rows.as_slice(), rows.as_slice());
-            assert_eq!(rt; rest.apps.as_slice(), apps.as_slice());
-            assert_eq!(rt; rest.journal.len(), 3);
-        }
-    }
+    rest.live.rows.as_slice() == rows.as_slice() && rest.apps.as_slice() == apps.as_slice()
+}
+
+// The receipts of both packets, and what is left of their engine.
+fn both(alloc: Global) -> Result<(Receipt, Receipt, Option<EngineRest>), AllocError> {
+    let (engine, mut pass, mut seats) = open(alloc, &SMALL)?;
+    let (tagged, dropped) = send_both(&engine, &mut pass, &mut seats.writer);
+    let rest = close(alloc, engine, pass, seats, &SMALL)?;
+    Ok((tagged, dropped, rest))
+}
+
+#[test]
+fn the_match_is_by_the_socket_and_the_charge_by_the_tag(rt: HostRuntime) -> Result<(), Fail> {
+    let (tagged, dropped, rest) = both(rt.alloc())?;
+    assert_eq!(rt; (tagged, dropped), (OF_THE_TAG, OF_THE_UID));
+    let rest = rest.ok_or("a pass with all calls")?;
+    assert!(rt; counts_both(&rest));
+    assert_eq!(rt; lengths(&rest), (0, 2, 3, 1, 0));
     Ok(())
 }
 
@@ -232,24 +267,32 @@ fn stand_by(regs: &Regs, writer: &mut Writer)
     regs.publish(writer);
 }
 
+// Stands by, and sends and receives a packet of the denied uid.
+fn send_both_ways(engine: &Engine, pass: &mut Pass, writer: &mut Writer) -> (Receipt, Receipt)
+    requires from { (pass.old.tables ≡ engine.now.tables) × (writer.old.origin ≡ engine.now.tables.regs) }
+    requires left { 1 < pass.old.has.left }
+{
+    stand_by(engine.regs(), writer);
+    let sent = send(engine, pass, Dir::Egress, 10050, 0, 60);
+    (sent, send(engine, pass, Dir::Ingress, 10050, 0, 60))
+}
+
+// How a packet fared, and in which phase it was counted, if it was.
+fn fared(receipt: &Receipt) -> (Verdict, Option<u32>) {
+    (receipt.verdict, receipt.phase)
+}
+
+// How both packets fared.
+fn fared_both_ways(alloc: Global) -> Result<[(Verdict, Option<u32>); 2], AllocError> {
+    let (engine, mut pass, mut seats) = open(alloc, &SMALL)?;
+    let (sent, received) = send_both_ways(&engine, &mut pass, &mut seats.writer);
+    Ok([fared(&sent), fared(&received)])
+}
+
 #[test]
 fn a_dropped_packet_is_counted_where_it_was_received(rt: HostRuntime) -> Result<(), Fail> {
-    let (engine, mut pass, mut seats) = open(rt.alloc(), &SMALL)?;
-    stand_by(engine.regs(), &mut seats.writer);
-    let sent = send(&engine, &mut pass, Dir::Egress, 10050, 0, 60);
-    let received = send(&engine, &mut pass, Dir::Ingress, 10050, 0, 60);
-    assert_eq!(rt;
-        (sent.verdict, sent.phase, sent.landed_app),
-        (Verdict::Drop, None, None)
-    );
-    assert_eq!(rt;
-        (received.verdict, received.phase),
-        (Verdict::Drop, Some(0))
-    );
-    assert_eq!(rt;
-        (pass.left(), pass.made(), pass.seen(), pass.phase()),
-        (1_998, 2, 2, 0)
-    );
+    let fared = fared_both_ways(rt.alloc())?;
+    assert_eq!(rt; fared, [(Verdict::Drop, None), (Verdict::Drop, Some(0))]);
     Ok(())
 }
 
@@ -270,278 +313,100 @@ fn pass_by(engine: &Engine, pass: &mut Pass, dir: Dir) -> IfaceReceipt
     engine.iface(pass, &call)
 }
 
-#[test]
-fn the_clat_daemon_is_counted_by_interface_alone(rt: HostRuntime) -> Result<(), Fail> {
-    let (engine, mut pass, seats) = open(rt.alloc(), &SMALL)?;
+// The daemon's packet at a hook, and two at an interface program, with what is left of their engine.
+fn clat(
+    alloc: Global,
+) -> Result<(Receipt, IfaceReceipt, IfaceReceipt, Option<EngineRest>), AllocError> {
+    let (engine, mut pass, seats) = open(alloc, &SMALL)?;
     let hooked = send(&engine, &mut pass, Dir::Ingress, 1029, 0, 60);
     let sent = pass_by(&engine, &mut pass, Dir::Egress);
     let received = pass_by(&engine, &mut pass, Dir::Ingress);
-    assert_eq!(rt; (hooked.verdict, hooked.phase), (Verdict::Pass, None));
+    let rest = close(alloc, engine, pass, seats, &SMALL)?;
+    Ok((hooked, sent, received, rest))
+}
+
+#[test]
+fn the_clat_daemon_is_counted_by_interface_alone(rt: HostRuntime) -> Result<(), Fail> {
+    let (hooked, sent, received, rest) = clat(rt.alloc())?;
+    assert_eq!(rt; fared(&hooked), (Verdict::Pass, None));
     assert_eq!(rt; (sent.matched, sent.landed), (false, None));
     assert_eq!(rt;
         (received.matched, received.landed),
         (true, Some(Mark::Landed))
     );
+    let rest = rest.ok_or("a pass with all calls")?;
     let ifaces = [(2, Amount::counted(Dir::Ingress, 1, 60))];
-    match close(rt.alloc(), engine, pass, seats, &SMALL)? {
-        None => assert!(rt; false),
-        Some(rest) => {
-            assert_eq!(rt; (rest.live.rows.len(), rest.apps.len()), (0, 0));
-            assert_eq!(rt; rest.ifaces.as_slice(), ifaces.as_slice());
-        }
-    }
+    assert_eq!(rt; rest.ifaces.as_slice(), ifaces.as_slice());
+    assert_eq!(rt; lengths(&rest), (0, 0, 0, 0, 1));
     Ok(())
 }
 
-// What the allow list says of a uid.
-fn allowed(engine: &Engine, pass: &mut Pass, uid: Uid, cookie: u64, received: bool) -> ListReceipt
-    requires from { pass.old.tables ≡ engine.now.tables }
-    requires uid { uid < 4294967295 }
-    ensures { pass.new.tables ≡ pass.old.tables }
-{
-    engine.allow(pass, uid, cookie, received)
+/// An answer that looked up no owner.
+const UNSEEN: ListReceipt = ListReceipt {
+    front: 3,
+    owner_read: None,
+    matched: true,
+};
+
+/// An answer that found the owner whom doze allows.
+const SEEN: ListReceipt = ListReceipt {
+    front: 3,
+    owner_read: Some(Seen {
+        version: 3,
+        value: Some(4),
+    }),
+    matched: false,
+};
+
+// What the allow list says of the system, of a socket of nobody's that receives, and of an app, and what the deny
+// list says of the app; and then the pass's calls, and those that it made.
+fn asked(alloc: Global) -> Result<([ListReceipt; 4], u64, u64), AllocError> {
+    let (engine, mut pass, mut seats) = open(alloc, &SMALL)?;
+    tag_and_doze(engine.regs(), &mut seats.writer);
+    let system = engine.allow(&mut pass, 9999, 1, false);
+    let nobody = engine.allow(&mut pass, 65534, 0, true);
+    let app = engine.allow(&mut pass, 10050, 0, true);
+    let denied = engine.deny(&mut pass, 10050);
+    Ok(([system, nobody, app, denied], pass.left(), pass.made()))
 }
 
 #[test]
 fn the_lists_spend_no_call(rt: HostRuntime) -> Result<(), Fail> {
-    let (engine, mut pass, mut seats) = open(rt.alloc(), &SMALL)?;
-    tag_and_doze(engine.regs(), &mut seats.writer);
-    let system = allowed(&engine, &mut pass, 9999, 1, false);
-    let nobody = allowed(&engine, &mut pass, 65534, 0, true);
-    let app = allowed(&engine, &mut pass, 10050, 0, true);
-    let denied = engine.deny(&mut pass, 10050);
-    let unseen = ListReceipt {
-        front: 3,
-        owner_read: None,
-        matched: true,
-    };
-    let seen = ListReceipt {
-        front: 3,
-        owner_read: OF_THE_TAG.owner_read,
-        matched: false,
-    };
-    assert_eq!(rt; (system, nobody), (unseen, unseen));
-    assert_eq!(rt; (app, denied), (seen, seen));
-    assert_eq!(rt; (pass.left(), pass.made()), (2_000, 0));
+    let asked = asked(rt.alloc())?;
+    assert_eq!(rt; asked, ([UNSEEN, UNSEEN, SEEN, SEEN], 2_000, 0));
     Ok(())
+}
+
+// How many writes a pass has seen before it meets the desk and then, and its phase then.
+fn seen_by_a_note(alloc: Global) -> Result<(u32, u32, u32), AllocError> {
+    let (engine, mut pass, mut seats) = open(alloc, &SMALL)?;
+    let mut note = engine.split(&mut pass, 0);
+    tag_and_doze(engine.regs(), &mut seats.writer);
+    let before = note.seen();
+    engine.meet(&mut note, &mut seats.writer, &mut seats.collect);
+    NoTally.ended(&pass, &seats.collect);
+    Ok((before, note.seen(), note.phase()))
 }
 
 #[test]
 fn a_pass_learns_what_the_desk_knows(rt: HostRuntime) -> Result<(), Fail> {
-    let (engine, mut pass, mut seats) = open(rt.alloc(), &SMALL)?;
-    let mut note = engine.split(&mut pass, 0);
-    tag_and_doze(engine.regs(), &mut seats.writer);
-    send(&engine, &mut pass, Dir::Ingress, 10050, 77, 100);
+    let seen = seen_by_a_note(rt.alloc())?;
+    assert_eq!(rt; seen, (0, 3, 0));
+    Ok(())
+}
+
+// What the desk reads of an app once it met the pass that sent a packet of 100 bytes.
+fn read_after_meeting(alloc: Global) -> Result<Amount, AllocError> {
+    let (engine, mut pass, mut seats) = open(alloc, &SMALL)?;
+    send(&engine, &mut pass, Dir::Ingress, 10050, 0, 100);
     engine.meet_apps(&mut pass, &mut seats.apps);
-    let total = engine.apps().read(&mut seats.apps, 10060);
-    let before = note.seen();
-    engine.meet(&mut note, &mut seats.writer, &mut seats.collect);
+    Ok(engine.apps().read(&mut seats.apps, 10050))
+}
+
+#[test]
+fn the_desk_learns_what_a_pass_added(rt: HostRuntime) -> Result<(), Fail> {
+    let total = read_after_meeting(rt.alloc())?;
     assert_eq!(rt; total, Amount::counted(Dir::Ingress, 1, 100));
-    assert_eq!(rt; (before, note.seen(), note.phase()), (0, 3, 0));
-    NoTally.ended(&pass, &seats.collect);
-    Ok(())
-}
-
-const CALLS: u32 = 500;
-
-// Sends packets of a tagged socket, and says how many of them had a tag.
-fn run_lane(engine: &Engine, mut pass: Pass) -> (Pass, u64)
-    requires { pass.tables ≡ engine.now.tables }
-    ensures { result.0.tables ≡ engine.now.tables }
-{
-    let mut tagged = 0u64;
-    for _ in 0..CALLS {
-        if pass.left() == 0 {
-            break;
-        }
-        let receipt = send(engine, &mut pass, Dir::Egress, 10050, 5, 100);
-        if receipt.landed_tag == Some(Mark::Landed) {
-            tagged = tagged.wrapping_add(1);
-        }
-    }
-    (pass, tagged)
-}
-
-// Two lanes, side by side.
-fn run_lanes<R: Threads + Sync>(
-    rt: &R,
-    engine: &Engine,
-    first: Pass,
-    second: Pass,
-) -> ((Pass, u64), (Pass, u64))
-    requires first { first.tables ≡ engine.now.tables }
-    requires second { second.tables ≡ engine.now.tables }
-    ensures first { result.0.0.tables ≡ engine.now.tables }
-    ensures second { result.1.0.tables ≡ engine.now.tables }
-{
-    thread::join(rt, || run_lane(engine, first), || run_lane(engine, second))
-}
-
-// Tags the socket and takes its tag off again, many times.
-fn run_desk(regs: &Regs, mut writer: Writer) -> Writer
-    requires { writer.origin ≡ regs.now }
-    ensures { result.origin ≡ regs.now }
-{
-    for tag in 1..=20 {
-        let entry = TagEntry { uid: 10050, tag };
-        let _ = regs.write(&mut writer, Key::Cookie(5), Some(entry.word()));
-        regs.publish(&mut writer);
-        let _ = regs.write(&mut writer, Key::Cookie(5), None);
-        regs.publish(&mut writer);
-    }
-    writer
-}
-
-const MOST_POLLS: u32 = 100_000_000;
-
-// Polls until all that entered have left, at most so many times.
-fn poll_until_clear(engine: &Engine, flipped: &mut Flipped)
-    requires from { flipped.old.table ≡ engine.now.tables.maps }
-    requires waits { is_clear flipped.old ≡ false }
-    ensures table { flipped.new.table ≡ flipped.old.table }
-{
-    for _ in 0..MOST_POLLS {
-        if engine.paired().poll(flipped) == Grace::Clear {
-            return;
-        }
-    }
-}
-
-// Collects once. None where no poll found the old phase clear.
-fn collect_once(
-    alloc: Global,
-    engine: &Engine,
-    collect: CollectSeat,
-) -> Result<Option<(CollectSeat, Snapshot)>, AllocError>
-    requires { (collect.table ≡ engine.now.tables.maps) × (engine.now.sizes.rows ≤ 64) }
-    ensures { IfOk result (λ found. IfSome found (λ pair. pair.0.table ≡ engine.now.tables.maps)) }
-{
-    let room = SnapshotRoom::new(alloc, 64)?;
-    if collect.phase() >= 1024 {
-        return Ok(None);
-    }
-    let mut flipped = engine.paired().flip(collect, room);
-    poll_until_clear(engine, &mut flipped);
-    if flipped.is_clear() {
-        Ok(Some(engine.paired().drain(flipped)))
-    } else {
-        Ok(None)
-    }
-}
-
-// The packets of rows without a tag, and of rows with one.
-fn packets_in(rows: &[Row]) -> (u64, u64) {
-    let mut plain = 0u64;
-    let mut tagged = 0u64;
-    for row in rows {
-        let packets = row.amount.tx_packets;
-        if row.label.tag == 0 {
-            plain = plain.wrapping_add(packets);
-        } else {
-            tagged = tagged.wrapping_add(packets);
-        }
-    }
-    (plain, tagged)
-}
-
-// Collects once in each round, and says how many packets all snapshots hold, without a tag and with one. None
-// where a phase was never found clear.
-fn collect_in_rounds(
-    alloc: Global,
-    engine: &Engine,
-    mut collect: CollectSeat,
-    rounds: u32,
-) -> Result<Option<(CollectSeat, u64, u64)>, AllocError>
-    requires { (collect.table ≡ engine.now.tables.maps) × (engine.now.sizes.rows ≤ 64) }
-    ensures { IfOk result (λ found. IfSome found (λ f. f.0.table ≡ engine.now.tables.maps)) }
-{
-    let mut all = (0u64, 0u64);
-    for _ in 0..rounds {
-        match collect_once(alloc, engine, collect)? {
-            None => return Ok(None),
-            Some((next, snapshot)) => {
-                collect = next;
-                let (plain, tagged) = packets_in(snapshot.rows.as_slice());
-                all = (all.0.wrapping_add(plain), all.1.wrapping_add(tagged));
-            }
-        }
-    }
-    Ok(Some((collect, all.0, all.1)))
-}
-
-// The desk and ten collections, side by side.
-fn run_desk_and_collector<R: Threads + Sync>(
-    rt: &R,
-    alloc: Global,
-    engine: &Engine,
-    writer: Writer,
-    collect: CollectSeat,
-) -> (Writer, Result<Option<(CollectSeat, u64, u64)>, AllocError>)
-    requires writer { writer.origin ≡ engine.now.tables.regs }
-    requires collect { (collect.table ≡ engine.now.tables.maps) × (engine.now.sizes.rows ≤ 64) }
-    ensures writer { result.0.origin ≡ engine.now.tables.regs }
-    ensures collect { IfOk result.1 (λ found. IfSome found (λ f. f.0.table ≡ engine.now.tables.maps)) }
-{
-    let regs = engine.regs();
-    thread::join(
-        rt,
-        || run_desk(regs, writer),
-        || collect_in_rounds(alloc, engine, collect, 10),
-    )
-}
-
-#[test]
-fn lanes_beside_desk_and_collector_lose_nothing(rt: HostRuntime) -> Result<(), Fail> {
-    let alloc = rt.alloc();
-    let (engine, mut first, seats) = open(alloc, &SMALL)?;
-    let second = engine.split(&mut first, 1_000);
-    let DeskSeats {
-        writer,
-        collect,
-        apps,
-    } = seats;
-    let (((mut first, x), (second, y)), (writer, collected)) = thread::join(
-        &rt,
-        || run_lanes(&rt, &engine, first, second),
-        || run_desk_and_collector(&rt, alloc, &engine, writer, collect),
-    );
-    engine.join(&mut first, second);
-    match collected? {
-        None => assert!(rt; false),
-        Some((collect, plain, tagged)) => {
-            let seats = DeskSeats {
-                writer,
-                collect,
-                apps,
-            };
-            match close(alloc, engine, first, seats, &SMALL)? {
-                None => assert!(rt; false),
-                Some(rest) => {
-                    let live = packets_in(rest.live.rows.as_slice());
-                    let sums = (plain.wrapping_add(live.0), tagged.wrapping_add(live.1));
-                    let apps = [(10050, Amount::counted(Dir::Egress, 1_000, 100_000))];
-                    assert_eq!(rt; sums, (1_000, x.wrapping_add(y)));
-                    assert_eq!(rt; (rest.live.phase, rest.journal.len()), (10, 40));
-                    assert_eq!(rt; rest.apps.as_slice(), apps.as_slice());
-                }
-            }
-        }
-    }
-    Ok(())
-}
-
-#[test]
-fn an_engine_lasts_for_1024_collections(rt: HostRuntime) -> Result<(), Fail> {
-    let sizes = Sizes {
-        rows: 1,
-        calls: 1,
-        ..SMALL
-    };
-    let (engine, _pass, seats) = open(rt.alloc(), &sizes)?;
-    match collect_in_rounds(rt.alloc(), &engine, seats.collect, 1_024)? {
-        None => assert!(rt; false),
-        Some((collect, _, _)) => assert_eq!(rt; collect.phase(), 1_024),
-    }
     Ok(())
 }
 
