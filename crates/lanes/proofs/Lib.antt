@@ -6,4 +6,3 @@ pub mod Bounds
 pub mod SectionLemmas
 pub mod StepLemmas
 pub mod SeatLemmas
-pub mod TestLemmas

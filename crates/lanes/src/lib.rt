@@ -14,6 +14,3 @@ mod section;
 
 pub use crew::Crew;
 pub use section::run_section;
-
-#[cfg(test)]
-mod tests;

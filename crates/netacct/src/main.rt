@@ -4,6 +4,9 @@
 //! run, and the text of a fault goes to standard error.
 #![tactic(auto)]
 
+#[cfg(test)]
+mod tests;
+
 use hook_engine::NoTally;
 use outside::{ArgList, NoGate, StdSink, StdSource};
 use replay_main::{Fault, run};

@@ -13,8 +13,6 @@ mod parts;
 mod replay;
 mod runs;
 mod summary;
-#[cfg(test)]
-mod tests;
 mod words;
 
 pub use fault::Fault;

@@ -1,13 +1,14 @@
 //! Lanes run beside one another: each of two waits for the other before its first call.
 
-use super::words;
-use crate::run;
+use super::replay_with_gate;
 use crossbeam_utils::CachePadded;
-use hook_engine::NoTally;
-use outside::{Gate, MemSink, MemSource};
+use outside::Gate;
+use std::alloc::{AllocError, Global};
+use std::sync::Wait;
 use std::sync::atomic::AtomicU64;
 use std::sync::atomic::Ordering::SeqCst;
 use std::test::Fail;
+use std::thread::Threads;
 
 /// How often a lane looks for the other one before it gives up.
 const TURNS: u32 = 100_000_000;
@@ -58,27 +59,21 @@ impl Gate for Meeting {
     fn after(&self, _lane: u32, _k: u32) {}
 }
 
+// Replays two lanes of one packet each that meet: the status, and how many lanes saw the other one and gave up.
+fn replay_meeting<R: Threads + Wait + Sync>(
+    rt: &R,
+    alloc: Global,
+) -> Result<(u8, u64, u64), AllocError> {
+    let script = b"netacct 1\nsection\nlane\nin 10050 0 2 4 60 -\nlane\nout 10050 0 2 4 60 -\n";
+    let meeting = Meeting::new();
+    let outcome = replay_with_gate(rt, alloc, script, &meeting)?;
+    let met = meeting.met.load(SeqCst);
+    Ok((outcome.status, met, meeting.missed.load(SeqCst)))
+}
+
 #[test]
 fn two_lanes_meet(rt: HostRuntime) -> Result<(), Fail> {
-    let alloc = rt.alloc();
-    let script = b"netacct 1\nsection\nlane\nin 10050 0 2 4 60 -\nlane\nout 10050 0 2 4 60 -\n";
-    let words = words(alloc, &["replay"])?;
-    let mut source = MemSource::new(alloc, script, 100, &[])?;
-    let mut sink = MemSink::new(alloc, 4_096, 1_000, &[])?;
-    let meeting = Meeting::new();
-    let outcome = run(
-        &rt,
-        alloc,
-        &words,
-        &mut source,
-        &mut sink,
-        &meeting,
-        &mut NoTally,
-    );
-    assert_eq!(rt; outcome.status, 0);
-    assert_eq!(rt;
-        (meeting.met.load(SeqCst), meeting.missed.load(SeqCst)),
-        (2, 0)
-    );
+    let seen = replay_meeting(&rt, rt.alloc())?;
+    assert_eq!(rt; seen, (0, 2, 0));
     Ok(())
 }

@@ -1,31 +1,13 @@
 //! Two lanes of one socket beside a desk that tags the socket and deletes the tag's data, again and again.
 
-ghost use Rattle.std.specs.Prelude.{◌≡◌};
-ghost use Rattle.hook_engine.specs.Ends.{room_for};
-ghost use Rattle.lanes.specs.Crews.{IsReady};
-
-use super::{open, run};
-use crate::Crew;
-use acct_base::{LineReceipt, Mark, RegSizes, RowList, Sizes, Tag, TotalList};
+use super::replay_with_gate;
+use acct_base::{LineReceipt, Mark, RowList, Tag, TotalList};
 use desk_core::Reply;
-use hook_engine::{CloseRoom, DeskSeats, Engine, EngineRest};
+use outside::NoGate;
+use replay_main::Outcome;
 use shelf::{ReceiptList, ReplyList, SectionOut, Shelf};
 use std::alloc::{AllocError, Global};
 use std::test::Fail;
-
-/// Sizes for the packets below.
-const SIZES: Sizes = Sizes {
-    rows: 64,
-    regs: RegSizes {
-        cookies: 8,
-        sets: 8,
-        owners: 8,
-        writes: 64,
-    },
-    apps: 8,
-    ifaces: 8,
-    calls: 100,
-};
 
 // Puts a text behind another, so many times.
 fn put_often(text: &mut Vec<u8>, lines: &[u8], times: u32) -> Result<(), AllocError> {
@@ -36,8 +18,8 @@ fn put_often(text: &mut Vec<u8>, lines: &[u8], times: u32) -> Result<(), AllocEr
 }
 
 // Two lanes of 40 packets each, and a desk that ten times tags their socket and deletes the tag's data.
-fn lines(alloc: Global) -> Result<Vec<u8>, AllocError> {
-    let mut text = Vec::new(alloc);
+fn script(alloc: Global) -> Result<Vec<u8>, AllocError> {
+    let mut text = Vec::from_slice(alloc, b"netacct 1\nsection\n")?;
     for _ in 0..2 {
         text.extend_from_slice(b"lane\n")?;
         put_often(&mut text, b"in 10050 77 2 4 60 -\n", 40)?;
@@ -45,26 +27,6 @@ fn lines(alloc: Global) -> Result<Vec<u8>, AllocError> {
     text.extend_from_slice(b"desk\n")?;
     put_often(&mut text, b"tag 1000 77 10060 7\ndel 1000 10060 7\n", 10)?;
     Ok(text)
-}
-
-// What is left of the engine, and what was collected from it.
-fn closed(engine: Engine, crew: Crew, room: CloseRoom) -> Option<(EngineRest, Shelf)>
-    requires crew { IsReady engine crew }
-    requires room { room ≡ room_for engine.sizes }
-{
-    let Crew {
-        pass,
-        desk,
-        collector,
-    } = crew;
-    let (collect, apps, shelf) = collector.into_parts();
-    let seats = DeskSeats {
-        writer: desk.into_writer(),
-        collect,
-        apps,
-    };
-    let rest = engine.close(pass, seats, room).ok()?;
-    Some((rest, shelf))
 }
 
 // How many commands were done.
@@ -129,22 +91,51 @@ fn received_by_apps(apps: &TotalList) -> u64 {
     sum
 }
 
+/// What a replay comes to.
+#[derive(Clone, Copy, Debug, PartialEq, Eq)]
+struct Sums {
+    /// How many commands were done, and how many phases ended.
+    done: u32,
+    phases: u32,
+    /// How many packets the rows have, those that are left and those that were collected.
+    plain: u64,
+    tagged: u64,
+    /// How many packets the receipts charged to the tag.
+    receipts_tagged: u64,
+    /// How many packets the apps have.
+    apps: u64,
+}
+
+// The sums of a report with a section of two lanes.
+fn sums_of(outcome: &Outcome) -> Option<Sums> {
+    let report = outcome.report.as_ref()?;
+    let out = report.sections.get(0)?;
+    let live = &report.live.rows;
+    Some(Sums {
+        done: done(&out.replies),
+        phases: report.shelf.len(),
+        plain: received(live, 0).wrapping_add(collected(&report.shelf, 0)),
+        tagged: received(live, 7).wrapping_add(collected(&report.shelf, 7)),
+        receipts_tagged: tagged_in(out)?,
+        apps: received_by_apps(&report.apps),
+    })
+}
+
+// The packets of the tag and of the plain rows stand in snapshots, in deletions and in the rows that are left, each
+// once, however the lanes fell between the deletions.
 #[test]
 fn sums_are_exact_beside_deletions(rt: HostRuntime) -> Result<(), Fail> {
-    let alloc = rt.alloc();
-    let room = CloseRoom::new(alloc, &SIZES)?;
-    let (engine, crew) = open(alloc, &SIZES)?;
-    let (crew, out) = run(&rt, alloc, &engine, crew, &lines(alloc)?);
-    match (out, closed(engine, crew, room)) {
-        (Some(out), Some((rest, shelf))) => {
-            assert_eq!(rt; (done(&out.replies), shelf.len()), (20, 10));
-            let plain = received(&rest.live.rows, 0).wrapping_add(collected(&shelf, 0));
-            let tagged = received(&rest.live.rows, 7).wrapping_add(collected(&shelf, 7));
-            assert_eq!(rt; plain, 80);
-            assert_eq!(rt; Some(tagged), tagged_in(&out));
-            assert_eq!(rt; received_by_apps(&rest.apps), 80);
-        }
-        _ => assert!(rt; false),
-    }
+    let script = script(rt.alloc())?;
+    let outcome = replay_with_gate(&rt, rt.alloc(), &script, &NoGate)?;
+    let sums = sums_of(&outcome).ok_or("a report of two lanes")?;
+    assert_eq!(rt; sums.tagged, sums.receipts_tagged);
+    let exact = Sums {
+        done: 20,
+        phases: 10,
+        plain: 80,
+        apps: 80,
+        ..sums
+    };
+    assert_eq!(rt; sums, exact);
     Ok(())
 }

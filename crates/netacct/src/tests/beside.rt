@@ -1,10 +1,9 @@
 //! The desk runs beside the lanes: a lane that waits between two calls reads what the desk wrote meanwhile.
 
-use super::words;
-use crate::{Outcome, run};
+use super::replay_with_gate;
 use acct_base::LineReceipt;
-use hook_engine::NoTally;
-use outside::{Gate, MemSink, MemSource};
+use outside::Gate;
+use replay_main::Outcome;
 use std::test::Fail;
 use std::thread::yield_now;
 
@@ -39,21 +38,9 @@ fn second_version(outcome: &Outcome) -> Option<u32> {
 // A desk that came after the lanes would have written nothing yet.
 #[test]
 fn a_lane_reads_what_the_desk_writes_beside_it(rt: HostRuntime) -> Result<(), Fail> {
-    let alloc = rt.alloc();
     let script =
         b"netacct 1\nsection\nlane\nin 10050 77 2 4 60 -\nin 10050 77 2 4 60 -\ndesk\ntag 1000 77 10060 7\n";
-    let words = words(alloc, &["replay"])?;
-    let mut source = MemSource::new(alloc, script, 100, &[])?;
-    let mut sink = MemSink::new(alloc, 4_096, 1_000, &[])?;
-    let outcome = run(
-        &rt,
-        alloc,
-        &words,
-        &mut source,
-        &mut sink,
-        &Held,
-        &mut NoTally,
-    );
+    let outcome = replay_with_gate(&rt, rt.alloc(), script, &Held)?;
     assert_eq!(rt; second_version(&outcome), Some(1));
     Ok(())
 }

@@ -1,8 +1,8 @@
 //! Each read of a replay fails once, and each write; and a sink has too little room.
 
-use super::{FOUR_LANES, FOUR_LANES_DUMP, ONE_PACKET, ONE_PACKET_DUMP, called};
-use crate::{Fault, Outcome};
+use super::{Ended, FOUR_LANES, FOUR_LANES_DUMP, ONE_PACKET, ONE_PACKET_DUMP, called};
 use outside::{Failed, MemSink, MemSource, Sink, Source};
+use replay_main::Fault;
 use std::alloc::{AllocError, Global};
 use std::process::Abort;
 use std::sync::Wait;
@@ -106,7 +106,7 @@ impl<K: Sink> Sink for Counted<K> {
 /// What a replay came to, and how its source and its sink were called.
 #[derive(Drop)]
 struct Done {
-    outcome: Outcome,
+    ended: Ended,
     reads: u64,
     writes: u64,
     sink: MemSink,
@@ -129,9 +129,9 @@ fn replayed<R: Threads + Wait + Sync>(
         outside: MemSink::new(alloc, room, PIECE, &[failing_write])?,
         calls: 0,
     };
-    let outcome = called(rt, alloc, replay.call, &mut source, &mut sink)?;
+    let ended = called(rt, alloc, replay.call, &mut source, &mut sink)?;
     Ok(Done {
-        outcome,
+        ended,
         reads: source.calls,
         writes: sink.calls,
         sink: sink.outside,
@@ -145,8 +145,8 @@ fn untroubled<R: Threads + Wait + Sync + Abort>(
     replay: &Replay,
 ) -> Result<Done, Fail> {
     let done = replayed(rt, alloc, replay, ROOM, 0, 0)?;
-    assert_eq!(rt; (done.outcome.status, done.outcome.fault), (0, None));
-    assert!(rt; done.outcome.report.is_some());
+    assert_eq!(rt; (done.ended.status, done.ended.fault), (0, None));
+    assert!(rt; done.ended.has_report);
     assert_eq!(rt; done.sink.written(), replay.dump);
     // A call moves a piece at most.
     assert!(rt; done.reads >= replay.script.len().div_ceil(PIECE) as u64);
@@ -163,10 +163,10 @@ fn fails_at_read<R: Threads + Wait + Sync + Abort>(
 ) -> Result<(), Fail> {
     let done = replayed(rt, alloc, replay, ROOM, failing, 0)?;
     assert_eq!(rt;
-        (done.outcome.status, done.outcome.fault),
+        (done.ended.status, done.ended.fault),
         (3, Some(Fault::ReadFault))
     );
-    assert!(rt; done.outcome.report.is_none());
+    assert!(rt; !done.ended.has_report);
     assert_eq!(rt; done.sink.written(), b"".as_slice());
     Ok(())
 }
@@ -182,10 +182,10 @@ fn fails_at_write<R: Threads + Wait + Sync + Abort>(
 ) -> Result<MemSink, Fail> {
     let done = replayed(rt, alloc, replay, room, 0, failing)?;
     assert_eq!(rt;
-        (done.outcome.status, done.outcome.fault),
+        (done.ended.status, done.ended.fault),
         (4, Some(Fault::WriteFault))
     );
-    assert!(rt; done.outcome.report.is_some());
+    assert!(rt; done.ended.has_report);
     assert!(rt; replay.dump.starts_with(done.sink.written()));
     Ok(done.sink)
 }

@@ -1,11 +1,14 @@
+//! What the program does with its words, its input and its output, over sources and sinks in memory.
+
 mod beside;
+mod deleting;
 mod failing;
 mod generated;
 mod meeting;
 
-use crate::{Fault, Outcome, run, run_plain};
 use hook_engine::NoTally;
-use outside::{ArgList, MemSink, MemSource, NoGate, Sink, Source};
+use outside::{ArgList, Gate, MemSink, MemSource, NoGate, Sink, Source};
+use replay_main::{Fault, Outcome, run, run_plain};
 use script_text::Which;
 use std::alloc::{AllocError, Global};
 use std::sync::Wait;
@@ -106,45 +109,111 @@ fn words(alloc: Global, all: &[&str]) -> Result<ArgList, AllocError> {
     Ok(words)
 }
 
-// What a program comes to that is called with these words. Its gate holds nothing up, and its tally is told nothing.
+/// What a run came to.
+#[derive(Clone, Copy)]
+struct Ended {
+    status: u8,
+    fault: Option<Fault>,
+    has_report: bool,
+}
+
+// Of an outcome what is more than its report.
+fn without_report(outcome: &Outcome) -> Ended {
+    Ended {
+        status: outcome.status,
+        fault: outcome.fault,
+        has_report: outcome.report.is_some(),
+    }
+}
+
+// What a program comes to that is called with these words. Its tally is told nothing.
+fn called_with_gate<R: Threads + Wait + Sync, S: Source, K: Sink, G: Gate>(
+    rt: &R,
+    alloc: Global,
+    call: &[&str],
+    source: &mut S,
+    sink: &mut K,
+    gate: &G,
+) -> Result<Outcome, AllocError> {
+    let words = words(alloc, call)?;
+    Ok(run(rt, alloc, &words, source, sink, gate, &mut NoTally))
+}
+
+// The same with a gate that holds nothing up, and without the report.
 fn called<R: Threads + Wait + Sync, S: Source, K: Sink>(
     rt: &R,
     alloc: Global,
     call: &[&str],
     source: &mut S,
     sink: &mut K,
-) -> Result<Outcome, AllocError> {
-    let words = words(alloc, call)?;
-    let outcome = run(rt, alloc, &words, source, sink, &NoGate, &mut NoTally);
-    Ok(outcome)
+) -> Result<Ended, AllocError> {
+    let outcome = called_with_gate(rt, alloc, call, source, sink, &NoGate)?;
+    Ok(without_report(&outcome))
+}
+
+// What a program without other threads comes to.
+fn called_alone<S: Source, K: Sink>(
+    alloc: Global,
+    call: &[&str],
+    source: &mut S,
+    sink: &mut K,
+) -> Result<Ended, AllocError> {
+    let outcome = run_plain(alloc, &words(alloc, call)?, source, sink);
+    Ok(without_report(&outcome))
+}
+
+// What a program comes to on a script that is read in pieces of 10 bytes, and what it writes in pieces of 16.
+fn called_on<R: Threads + Wait + Sync>(
+    rt: &R,
+    alloc: Global,
+    call: &[&str],
+    script: &[u8],
+) -> Result<(Ended, MemSink), AllocError> {
+    let mut source = MemSource::new(alloc, script, 10, &[])?;
+    let mut sink = MemSink::new(alloc, 4_096, 16, &[])?;
+    let ended = called(rt, alloc, call, &mut source, &mut sink)?;
+    Ok((ended, sink))
+}
+
+// The same of a program without other threads.
+fn called_alone_on(
+    alloc: Global,
+    call: &[&str],
+    script: &[u8],
+) -> Result<(Ended, MemSink), AllocError> {
+    let mut source = MemSource::new(alloc, script, 10, &[])?;
+    let mut sink = MemSink::new(alloc, 4_096, 16, &[])?;
+    let ended = called_alone(alloc, call, &mut source, &mut sink)?;
+    Ok((ended, sink))
 }
 
 // What `replay` comes to on a script that is read in pieces of so many bytes, and what it writes in pieces of 16.
 // The calls of these numbers fail.
-fn replay_in_pieces<R: Threads + Wait + Sync>(
+fn replay<R: Threads + Wait + Sync>(
     rt: &R,
     alloc: Global,
     script: &[u8],
     piece: usize,
     failing_read: u64,
     failing_write: u64,
-) -> Result<(Outcome, MemSink), AllocError> {
+) -> Result<(Ended, MemSink), AllocError> {
     // A source gives a byte at a time at least.
     let mut source = MemSource::new(alloc, script, piece.max(1), &[failing_read])?;
     let mut sink = MemSink::new(alloc, 4_096, 16, &[failing_write])?;
-    let outcome = called(rt, alloc, &["replay"], &mut source, &mut sink)?;
-    Ok((outcome, sink))
+    let ended = called(rt, alloc, &["replay"], &mut source, &mut sink)?;
+    Ok((ended, sink))
 }
 
-// The same with pieces of 10 bytes.
-fn replay<R: Threads + Wait + Sync>(
+// What `replay` comes to beside a gate, with the report.
+fn replay_with_gate<R: Threads + Wait + Sync, G: Gate>(
     rt: &R,
     alloc: Global,
     script: &[u8],
-    failing_read: u64,
-    failing_write: u64,
-) -> Result<(Outcome, MemSink), AllocError> {
-    replay_in_pieces(rt, alloc, script, 10, failing_read, failing_write)
+    gate: &G,
+) -> Result<Outcome, AllocError> {
+    let mut source = MemSource::new(alloc, script, 4_096, &[])?;
+    let mut sink = MemSink::new(alloc, 65_536, 4_096, &[])?;
+    called_with_gate(rt, alloc, &["replay"], &mut source, &mut sink, gate)
 }
 
 #[test]
@@ -155,9 +224,9 @@ fn scripts_are_replayed(rt: HostRuntime) -> Result<(), Fail> {
         (ONE_PACKET, ONE_PACKET_DUMP),
     ];
     for (script, dump) in cases {
-        let (outcome, sink) = replay(&rt, rt.alloc(), script, 0, 0)?;
-        assert_eq!(rt; (outcome.status, outcome.fault), (0, None));
-        assert!(rt; outcome.report.is_some());
+        let (ended, sink) = called_on(&rt, rt.alloc(), &["replay"], script)?;
+        assert_eq!(rt; (ended.status, ended.fault), (0, None));
+        assert!(rt; ended.has_report);
         assert_eq!(rt; sink.written(), dump);
     }
     Ok(())
@@ -167,8 +236,8 @@ fn scripts_are_replayed(rt: HostRuntime) -> Result<(), Fail> {
 #[test]
 fn pieces_change_nothing(rt: HostRuntime) -> Result<(), Fail> {
     for piece in [1, 7, 4_096] {
-        let (outcome, sink) = replay_in_pieces(&rt, rt.alloc(), FOUR_LANES, piece, 0, 0)?;
-        assert_eq!(rt; (outcome.status, outcome.fault), (0, None));
+        let (ended, sink) = replay(&rt, rt.alloc(), FOUR_LANES, piece, 0, 0)?;
+        assert_eq!(rt; (ended.status, ended.fault), (0, None));
         assert_eq!(rt; sink.written(), FOUR_LANES_DUMP);
     }
     Ok(())
@@ -177,12 +246,9 @@ fn pieces_change_nothing(rt: HostRuntime) -> Result<(), Fail> {
 #[test]
 fn a_failed_read_leaves_the_sink_empty(rt: HostRuntime) -> Result<(), Fail> {
     for piece in [1, 7, 10] {
-        let (outcome, sink) = replay_in_pieces(&rt, rt.alloc(), ONE_PACKET, piece, 3, 0)?;
-        assert_eq!(rt;
-            (outcome.status, outcome.fault),
-            (3, Some(Fault::ReadFault))
-        );
-        assert!(rt; outcome.report.is_none());
+        let (ended, sink) = replay(&rt, rt.alloc(), ONE_PACKET, piece, 3, 0)?;
+        assert_eq!(rt; (ended.status, ended.fault), (3, Some(Fault::ReadFault)));
+        assert!(rt; !ended.has_report);
         assert_eq!(rt; sink.written(), b"".as_slice());
     }
     Ok(())
@@ -191,12 +257,9 @@ fn a_failed_read_leaves_the_sink_empty(rt: HostRuntime) -> Result<(), Fail> {
 #[test]
 fn a_failed_write_leaves_a_front_of_the_dump(rt: HostRuntime) -> Result<(), Fail> {
     for piece in [1, 7, 4_096] {
-        let (outcome, sink) = replay_in_pieces(&rt, rt.alloc(), ONE_PACKET, piece, 0, 2)?;
-        assert_eq!(rt;
-            (outcome.status, outcome.fault),
-            (4, Some(Fault::WriteFault))
-        );
-        assert!(rt; outcome.report.is_some());
+        let (ended, sink) = replay(&rt, rt.alloc(), ONE_PACKET, piece, 0, 2)?;
+        assert_eq!(rt; (ended.status, ended.fault), (4, Some(Fault::WriteFault)));
+        assert!(rt; ended.has_report);
         assert_eq!(rt; sink.written(), b"netacct-dump 1\nc".as_slice());
     }
     Ok(())
@@ -242,8 +305,8 @@ fn a_text_has_its_fault(rt: HostRuntime) -> Result<(), Fail> {
     ];
     for (script, status, fault) in cases {
         for piece in [1, 7, 4_096] {
-            let (outcome, sink) = replay_in_pieces(&rt, rt.alloc(), script, piece, 0, 0)?;
-            assert_eq!(rt; (outcome.status, outcome.fault), (status, Some(fault)));
+            let (ended, sink) = replay(&rt, rt.alloc(), script, piece, 0, 0)?;
+            assert_eq!(rt; (ended.status, ended.fault), (status, Some(fault)));
             assert_eq!(rt; sink.written(), b"".as_slice());
         }
     }
@@ -252,7 +315,6 @@ fn a_text_has_its_fault(rt: HostRuntime) -> Result<(), Fail> {
 
 #[test]
 fn words_say_what_is_done(rt: HostRuntime) -> Result<(), Fail> {
-    let alloc = rt.alloc();
     let cases: [(&[&str], Option<Fault>, &[u8]); 5] = [
         (&["plain"], None, ONE_PACKET_DUMP),
         (
@@ -265,10 +327,8 @@ fn words_say_what_is_done(rt: HostRuntime) -> Result<(), Fail> {
         (&["replays"], Some(Fault::Usage), b""),
     ];
     for (call, fault, written) in cases {
-        let mut source = MemSource::new(alloc, ONE_PACKET, 10, &[])?;
-        let mut sink = MemSink::new(alloc, 4_096, 16, &[])?;
-        let outcome = called(&rt, alloc, call, &mut source, &mut sink)?;
-        assert_eq!(rt; outcome.fault, fault);
+        let (ended, sink) = called_on(&rt, rt.alloc(), call, ONE_PACKET)?;
+        assert_eq!(rt; ended.fault, fault);
         assert_eq!(rt; sink.written(), written);
     }
     Ok(())
@@ -277,7 +337,6 @@ fn words_say_what_is_done(rt: HostRuntime) -> Result<(), Fail> {
 // Without other threads the words of `replay` are no words.
 #[test]
 fn plain_words_need_no_thread(rt: HostRuntime) -> Result<(), Fail> {
-    let alloc = rt.alloc();
     let cases: [(&[&str], Option<Fault>, &[u8]); 4] = [
         (&["plain"], None, ONE_PACKET_DUMP),
         (
@@ -289,10 +348,8 @@ fn plain_words_need_no_thread(rt: HostRuntime) -> Result<(), Fail> {
         (&["replay", "--receipts"], Some(Fault::Usage), b""),
     ];
     for (call, fault, written) in cases {
-        let mut source = MemSource::new(alloc, ONE_PACKET, 10, &[])?;
-        let mut sink = MemSink::new(alloc, 4_096, 16, &[])?;
-        let outcome = run_plain(alloc, &words(alloc, call)?, &mut source, &mut sink);
-        assert_eq!(rt; outcome.fault, fault);
+        let (ended, sink) = called_alone_on(rt.alloc(), call, ONE_PACKET)?;
+        assert_eq!(rt; ended.fault, fault);
         assert_eq!(rt; sink.written(), written);
     }
     Ok(())
