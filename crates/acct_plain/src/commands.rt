@@ -13,7 +13,7 @@ ghost use Rattle.acct_plain.specs.Ending.{deletion_of, recorded_after};
 
 use crate::ledger::Ledger;
 use crate::plain::Plain;
-use crate::rows::{divide, less, rows_of};
+use crate::rows::{divide, less};
 use acct_base::{Amount, Snapshot, Tag, Uid};
 use desk_core::{Book, Command, Decision, Reply};
 use shelf::Deletion;
@@ -82,7 +82,7 @@ impl Plain {
         ensures { (past : Past) (n : ℕ) → Keeps self.now past n → IfOk result (λ p. p ≡ ended_by past drop) }
     {
         let phase = self.shelf.len();
-        let rows = rows_of(alloc, &self.rows)?;
+        let rows = self.rows.rows(alloc)?;
         match drop {
             None => Ok((Snapshot { phase, rows }, None)),
             Some((uid, tag)) => {

@@ -2,11 +2,11 @@
 
 ghost use Rattle.std.specs.Prelude.{◌≡◌, [], map, None, Some, true, is_some, IfOk, OnErr};
 ghost use Rattle.std.specs.List.Sorted.{IsStrictlySortedBy};
-ghost use Rattle.acct_base.specs.Amounts.{plus, HasRoom};
+ghost use Rattle.acct_base.specs.Amounts.{plus, HasRoom, label_cmp};
 ghost use Rattle.acct_base.specs.Receipts.{is_landed};
-ghost use Rattle.acct_plain.specs.Ledgers.{Adds, Sets, amount_of, find};
+ghost use Rattle.acct_plain.specs.Ledgers.{Adds, Sets, amount_of, find, row_of};
 
-use acct_base::{Amount, Mark};
+use acct_base::{Amount, Label, Mark, Row, RowList};
 use std::alloc::{AllocError, Global};
 use std::collections::BTreeMap;
 use std::marker::Model;
@@ -136,5 +136,22 @@ impl<K: Ord + Copy> Ledger<K> {
             .map(|(key, amount)| (*key, *amount))
             .collect(alloc)?;
         Ok(pairs)
+    }
+}
+
+impl Ledger<Label> {
+    /// All labels with their amounts as rows, ascending by label.
+    pub fn rows(&self, alloc: Global) -> Result<RowList, AllocError>
+        ensures rows { IfOk result (λ rows. rows ≡ map row_of self.now) }
+        ensures ordered { IsStrictlySortedBy label_cmp (map (λ e. e.0) self.now) }
+    {
+        let mut rows = Vec::with_capacity(alloc, self.entries.len())?;
+        for (label, amount) in &self.entries {
+            rows.push(Row {
+                label: *label,
+                amount: *amount,
+            })?;
+        }
+        Ok(RowList::from_vec(rows))
     }
 }

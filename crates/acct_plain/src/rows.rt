@@ -3,28 +3,13 @@
 ghost use Rattle.std.specs.Prelude.{◌≡◌, ◌==◌, ◌&&◌, ◌||◌, not, map, filter, IfOk, List as Listed};
 ghost use Rattle.std.specs.Ordering.{nat_cmp};
 ghost use Rattle.std.specs.List.Sorted.{IsStrictlySortedBy};
-ghost use Rattle.acct_base.specs.Amounts.{label_cmp, IsAtMost};
+ghost use Rattle.acct_base.specs.Amounts.{IsAtMost};
 ghost use Rattle.shelf.specs.Phases.{is_deleted};
-ghost use Rattle.acct_plain.specs.Ledgers.{row_of};
 ghost use Rattle.acct_plain.specs.Serial.{less};
 
 use crate::ledger::Ledger;
-use acct_base::{Amount, Label, List, Row, RowList, Tag, TotalList, Uid};
+use acct_base::{Amount, List, Row, RowList, Tag, TotalList, Uid};
 use std::alloc::{AllocError, Global};
-
-/// The rows of a ledger, ascending by label.
-pub(crate) fn rows_of(alloc: Global, ledger: &Ledger<Label>) -> Result<RowList, AllocError>
-    ensures rows { IfOk result (λ rows. rows ≡ map row_of ledger.now) }
-    ensures ordered { IsStrictlySortedBy label_cmp (map (λ e. e.0) ledger.now) }
-{
-    let pairs = ledger.pairs(alloc)?;
-    let mut rows = RowList::new(alloc);
-    for pair in &pairs {
-        let (label, amount) = *pair;
-        rows.push(Row { label, amount })?;
-    }
-    Ok(rows)
-}
 
 /// The totals of a ledger, ascending by key.
 pub(crate) fn totals_of(alloc: Global, ledger: &Ledger<u32>) -> Result<TotalList, AllocError>
@@ -65,7 +50,8 @@ pub(crate) fn divide(
     ensures left { IfOk result (λ parts. parts.0 ≡ filter (λ row. not (is_deleted uid tag row)) rows.now) }
     ensures taken { IfOk result (λ parts. parts.1 ≡ filter (is_deleted uid tag) rows.now) }
 {
-    let mut left = RowList::new(alloc);
+    // Nearly all rows are left.
+    let mut left = Vec::with_capacity(alloc, rows.len())?;
     let mut taken = RowList::new(alloc);
     for row in rows {
         if is_taken(row, uid, tag) {
@@ -74,5 +60,5 @@ pub(crate) fn divide(
             left.push(*row)?;
         }
     }
-    Ok((left, taken))
+    Ok((RowList::from_vec(left), taken))
 }

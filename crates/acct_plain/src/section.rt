@@ -9,7 +9,7 @@ ghost use Rattle.captures.specs.Runs.{Past};
 ghost use Rattle.acct_plain.specs.Walks.{LaneFits, LanesFit, DeskFits, calls_made, collecting};
 
 use crate::plain::Plain;
-use crate::rows::{rows_of, totals_of};
+use crate::rows::totals_of;
 use acct_base::{LineReceipt, NameList, Snapshot};
 use captures::{CallLaneList, CallList, Calls, LineCall};
 use desk_core::Command;
@@ -151,7 +151,7 @@ impl Plain {
         ensures { (past : Past) (n : ℕ) → Keeps self past n → IfOk result (λ r. shown r ≡ told names sections past) }
     {
         let phase = self.shelf.len();
-        let rows = rows_of(alloc, &self.rows)?;
+        let rows = self.rows.rows(alloc)?;
         let apps = totals_of(alloc, &self.apps)?;
         let ifaces = totals_of(alloc, &self.ifaces)?;
         Ok(Report {

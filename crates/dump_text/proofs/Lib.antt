@@ -1,5 +1,5 @@
 pub mod PageLemmas
-pub mod TallyLemmas
+pub mod CountLemmas
 pub mod SeenLemmas
 pub mod TotalLemmas
 pub mod ConditionLemmas

@@ -1,5 +1,5 @@
 -- The dump: the text of a report, line by line.
-use Rattle.std.specs.Prelude.{ℕ, ◌+◌, ◌==◌, ◌&&◌, Bool, true, false, if◌then◌else◌, List, [], ◌∷◌, ◌++◌, length, Option, Some, None, option_map, unwrap_or, codes, decimal, sum_by}
+use Rattle.std.specs.Prelude.{ℕ, ◌==◌, ◌&&◌, Bool, true, false, if◌then◌else◌, List, [], ◌∷◌, ◌++◌, length, Option, Some, None, option_map, unwrap_or, codes, decimal}
 use Rattle.std.specs.List.{find, flat_map}
 use Rattle.acct_base.specs.declared.amount.Amount.{Amount}
 use Rattle.acct_base.specs.declared.amount.Row.{Row}
@@ -17,8 +17,10 @@ use Rattle.acct_base.specs.Entries.{word_uid, word_tag, word_iface, word_rule}
 use Rattle.acct_base.specs.Text.{line_text}
 use Rattle.desk_core.specs.declared.command.Reply.{Reply}
 use Rattle.desk_core.specs.declared.command.Reply.TheVariants.{Done, Perm, NoEntry, Invalid, KeysSpent, JournalFull}
+use Rattle.shelf.specs.declared.counts.CallCounts.{CallCounts}
 use Rattle.shelf.specs.declared.shelf.Deletion.{Deletion}
 use Rattle.shelf.specs.declared.report.SectionOut.{SectionOut}
+use Rattle.shelf.specs.Counted.{counts_of}
 use Rattle.shelf.specs.Shelved.{Phases}
 use Rattle.shelf.specs.Phases.{deleted_app, kept_rows, added_rows}
 use Rattle.shelf.specs.Shown.{Shown}
@@ -33,44 +35,10 @@ section_receipts s = flat_map (λ lane. lane) s.lanes
 abbrev pub receipts_of : List SectionOut → List (ℕ × LineReceipt)
 receipts_of sections = flat_map section_receipts sections
 
--- A hook passed the packet.
-abbrev pub passed : LineReceipt → ℕ
-passed (line.Hook r) = if_pass r.verdict
-  where
-    if_pass : Verdict → ℕ
-    if_pass verdict.Pass = 1
-    if_pass verdict.Drop = 0
-passed (line.Iface r) = 0
-passed (line.List r) = 0
-
--- A hook dropped the packet.
-abbrev pub dropped : LineReceipt → ℕ
-dropped (line.Hook r) = if_drop r.verdict
-  where
-    if_drop : Verdict → ℕ
-    if_drop verdict.Pass = 0
-    if_drop verdict.Drop = 1
-dropped (line.Iface r) = 0
-dropped (line.List r) = 0
-
--- A mark says that the table was full.
-abbrev pub full_mark : Option Mark → ℕ
-full_mark (Some mark.Full) = 1
-full_mark (Some mark.Landed) = 0
-full_mark None = 0
-
--- How many marks of a receipt say so.
-abbrev pub full_marks : LineReceipt → ℕ
-full_marks (line.Hook r) = full_mark r.landed_tag + full_mark r.landed_plain + full_mark r.landed_app
-full_marks (line.Iface r) = full_mark r.landed
-full_marks (line.List r) = 0
-
 -- The line that counts receipts, packets that passed and were dropped, and marks of full tables.
-abbrev pub calls_text : List (ℕ × LineReceipt) → List ℕ
-calls_text rs = line_text (codes "calls" ∷ decimal (length rs)
-    ∷ codes "pass" ∷ decimal (sum_by (λ (r : ℕ × LineReceipt). passed r.1) rs)
-    ∷ codes "drop" ∷ decimal (sum_by (λ (r : ℕ × LineReceipt). dropped r.1) rs)
-    ∷ codes "full" ∷ decimal (sum_by (λ (r : ℕ × LineReceipt). full_marks r.1) rs) ∷ [])
+abbrev pub calls_text : CallCounts → List ℕ
+calls_text c = line_text (codes "calls" ∷ decimal c.calls ∷ codes "pass" ∷ decimal c.passed
+    ∷ codes "drop" ∷ decimal c.dropped ∷ codes "full" ∷ decimal c.full ∷ [])
 
 -- How many writes the commands made, and the live phase.
 abbrev pub writes_text : ℕ → ℕ → List ℕ
@@ -250,7 +218,7 @@ ifaces_text names ifaces = line_text (codes "ifaces" ∷ []) ++ flat_map (iface_
 abbrev pub dump : Shown → Bool → List ℕ
 dump r receipts =
     line_text (codes "netacct-dump" ∷ codes "1" ∷ [])
-    ++ calls_text (receipts_of r.sections)
+    ++ calls_text (counts_of (receipts_of r.sections))
     ++ writes_text (length r.journal) r.live.phase
     ++ replies_text r.sections
     ++ receipts_text receipts r.sections

@@ -7,22 +7,22 @@ use Rattle.acct_base.specs.declared.amount.Row.{Row}
 use Rattle.acct_base.specs.declared.label.Label.{Label}
 use Rattle.acct_base.specs.Amounts.{HasRoom, IsAtMost, amount_at}
 use Rattle.acct_base.specs.Sums.{total_at, total_keys}
+use Rattle.shelf.specs.declared.counts.CallCounts.{CallCounts}
+use Rattle.shelf.specs.Counted.{counts_of}
 use Rattle.shelf.specs.Shelved.{Phases}
 use Rattle.shelf.specs.Phases.{deleted_app, kept_rows, added_rows}
 use Rattle.shelf.specs.Shown.{Shown}
-use Rattle.dump_text.specs.declared.tally.Tally.{Tally}
 use Rattle.dump_text.specs.Dump.{receipts_of}
-use Rattle.dump_text.specs.Tallied.{tally}
 
 -- The rows of the dump's total, and the counts of its second line.
 pub record Room : Type 0 where
   pub rows : List Row
-  pub counts : Tally
+  pub counts : CallCounts
 
 -- The room was made for this report.
 pub record IsRoomOf (r : Shown) (room : Room) : Type 0 where
   pub rows : room.rows ≡ added_rows (kept_rows r.phases r.live)
-  pub counts : room.counts ≡ tally (receipts_of r.sections)
+  pub counts : room.counts ≡ counts_of (receipts_of r.sections)
 
 -- For each label the sum of the report's rows fits in words of 64 bits.
 abbrev pub SumsFit : Shown → Type 0

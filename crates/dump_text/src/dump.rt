@@ -4,10 +4,10 @@ ghost use Rattle.std.specs.Prelude.{◌≡◌, ◌≤◌, ◌∷◌, ◌++◌, I
 ghost use Rattle.std.specs.List.{All};
 ghost use Rattle.std.specs.Io.KnownBytes.{Appends};
 ghost use Rattle.outside.specs.Outside.{Rose, AppendsPrefix};
+ghost use Rattle.shelf.specs.Counted.{counts_of};
 ghost use Rattle.shelf.specs.Phases.{kept_rows, added_rows};
 ghost use Rattle.shelf.specs.Shown.{shown};
-ghost use Rattle.dump_text.specs.Dump.{dump, receipts_of, writes_text};
-ghost use Rattle.dump_text.specs.Tallied.{tally, tally_text};
+ghost use Rattle.dump_text.specs.Dump.{dump, calls_text, receipts_of, writes_text};
 ghost use Rattle.dump_text.specs.Pages.{Puts};
 ghost use Rattle.dump_text.specs.Room.{IsRoomOf, IsCovered, SumsFit, AppsCoverDeletions};
 
@@ -17,15 +17,14 @@ use crate::phases::{put_live, put_phases, put_total};
 use crate::receipts::put_receipts;
 use crate::replies::put_replies;
 use crate::room::DumpRoom;
-use crate::tally::Tally;
 use crate::totals::{put_apps, put_ifaces};
 use acct_base::RowList;
 use outside::Sink;
-use shelf::Report;
+use shelf::{CallCounts, Report};
 use std::alloc::Global;
 
-fn put_tally<K: Sink>(page: &mut Page<'_, K>, counts: Tally)
-    ensures { Puts K.written K.faults page.old page.new (tally_text counts) }
+fn put_calls<K: Sink>(page: &mut Page<'_, K>, counts: CallCounts)
+    ensures { Puts K.written K.faults page.old page.new (calls_text counts) }
 {
     page.put(b"calls");
     page.number(counts.calls);
@@ -53,15 +52,15 @@ fn put_dump<K: Sink>(
     report: &Report,
     receipts: bool,
     rows: &RowList,
-    counts: Tally,
+    counts: CallCounts,
 )
     requires rows { rows.now ≡ added_rows (kept_rows report.now.shelf.phases report.now.live) }
-    requires counts { counts ≡ tally (receipts_of report.now.sections) }
+    requires counts { counts ≡ counts_of (receipts_of report.now.sections) }
     requires covered { All (IsCovered report.now.shelf.phases) report.now.apps }
     ensures { Puts K.written K.faults page.old page.new (dump (shown report.now) receipts) }
 {
     page.put(b"netacct-dump 1\n");
-    put_tally(page, counts);
+    put_calls(page, counts);
     put_writes(page, report.journal.len(), report.live.phase);
     put_replies(page, &report.sections);
     put_receipts(page, receipts, &report.sections);

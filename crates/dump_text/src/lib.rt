@@ -5,6 +5,7 @@
 #![tactic(auto)]
 
 mod buffer;
+mod counts;
 mod dump;
 mod fault;
 mod page;
@@ -13,9 +14,9 @@ mod receipts;
 mod replies;
 mod room;
 mod rows;
-mod tally;
 mod totals;
 
+pub use counts::report_counts;
 pub use dump::{stream_dump, write_dump};
 pub use fault::{DumpFault, WriteFailed};
 pub use receipts::receipt_line;

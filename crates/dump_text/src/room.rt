@@ -3,9 +3,9 @@ ghost use Rattle.shelf.specs.Shown.{shown};
 ghost use Rattle.dump_text.specs.Room.{IsRoomOf, SumsFit};
 
 use crate::buffer::LineBuffer;
-use crate::tally::{Tally, report_tally};
+use crate::counts::report_counts;
 use acct_base::RowList;
-use shelf::Report;
+use shelf::{CallCounts, Report};
 use std::alloc::{AllocError, Global};
 use std::marker::Model;
 
@@ -15,7 +15,7 @@ use std::marker::Model;
 pub struct DumpRoom {
     pub(crate) buffer: LineBuffer,
     pub(crate) rows: RowList,
-    pub(crate) counts: Tally,
+    pub(crate) counts: CallCounts,
 }
 
 impl Model for DumpRoom {
@@ -32,7 +32,7 @@ impl DumpRoom {
         requires sums { SumsFit (shown report.now) }
         ensures { IfOk result (IsRoomOf (shown report.now)) }
     {
-        let counts = report_tally(report)?;
+        let counts = report_counts(report)?;
         let rows = report.shelf.merged(alloc, &report.live)?;
         let buffer = LineBuffer::new(alloc)?;
         Ok(DumpRoom {

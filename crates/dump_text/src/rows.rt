@@ -32,14 +32,14 @@ pub fn put_iface<K: Sink>(page: &mut Page<'_, K>, names: &NameList, iface: Iface
     }
 }
 
-/// Puts an amount's numbers at the end of a line.
+/// Puts an amount's numbers at the end of a line. Most amounts are of one direction, and 0 in the other.
 pub fn put_amount<K: Sink>(page: &mut Page<'_, K>, amount: &Amount)
     ensures { Puts K.written K.faults page.old page.new (32 ∷ line_text (amount_words amount.now)) }
 {
-    page.number(amount.rx_packets);
-    page.number(amount.rx_bytes);
-    page.number(amount.tx_packets);
-    page.number(amount.tx_bytes);
+    page.short_number(amount.rx_packets);
+    page.short_number(amount.rx_bytes);
+    page.short_number(amount.tx_packets);
+    page.short_number(amount.tx_bytes);
     page.end_line();
 }
 
@@ -48,8 +48,8 @@ fn put_row<K: Sink>(page: &mut Page<'_, K>, names: &NameList, row: &Row)
 {
     page.put(b"row");
     page.number(row.label.uid);
-    page.number(row.label.tag);
-    page.number(row.label.set);
+    page.short_number(row.label.tag as u64);
+    page.short_number(row.label.set as u64);
     put_iface(page, names, row.label.iface);
     put_amount(page, &row.amount);
 }

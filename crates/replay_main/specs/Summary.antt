@@ -1,15 +1,13 @@
 -- The summary of a replay of the generated script: one line, with the counts that its dump has and the sums of its rows.
-use Rattle.std.specs.Prelude.{ℕ, ◌+◌, ◌==◌, not, Bool, true, false, List, [], ◌∷◌, length, codes, decimal, sum_by}
+use Rattle.std.specs.Prelude.{ℕ, ◌+◌, ◌==◌, not, Bool, true, false, List, [], ◌∷◌, length, codes, decimal}
 use Rattle.acct_base.specs.declared.amount.Amount.{Amount}
 use Rattle.acct_base.specs.declared.amount.Row.{Row}
-use Rattle.acct_base.specs.declared.receipt.LineReceipt.{LineReceipt}
 use Rattle.acct_base.specs.Amounts.{total_by, amount_if}
 use Rattle.acct_base.specs.Text.{line_text}
+use Rattle.shelf.specs.Counted.{counts_of}
 use Rattle.shelf.specs.Phases.{kept_rows}
 use Rattle.shelf.specs.Shown.{Shown}
-use Rattle.dump_text.specs.declared.tally.Tally.{Tally}
-use Rattle.dump_text.specs.Dump.{receipts_of, passed, dropped, full_marks}
-use Rattle.replay_main.specs.declared.summary.CallCounts.{CallCounts}
+use Rattle.dump_text.specs.Dump.{receipts_of}
 use Rattle.replay_main.specs.declared.summary.Sums.{Sums}
 
 -- The row has a tag, or, where that is asked for, none.
@@ -24,15 +22,6 @@ row_amount tagged row = amount_if (is_row_of tagged row) row.amount
 -- What the rows with a tag hold together, or those without one.
 abbrev pub rows_sum : Bool → List Row → Amount
 rows_sum tagged rows = total_by (row_amount tagged) rows
-
--- What is counted of receipts: how many there are, how many passed or dropped a packet, and how many marks tell of a full table.
-abbrev pub counts_of : List (ℕ × LineReceipt) → CallCounts
-counts_of receipts = record {
-  calls = length receipts;
-  passed = sum_by (λ (r : ℕ × LineReceipt). passed r.1) receipts;
-  dropped = sum_by (λ (r : ℕ × LineReceipt). dropped r.1) receipts;
-  full = sum_by (λ (r : ℕ × LineReceipt). full_marks r.1) receipts;
-}
 
 -- The counts and sums of a report: of all its receipts, and of all rows of its snapshots and live ones.
 abbrev pub sums_of : Shown → Sums
@@ -60,7 +49,3 @@ sums_text rounds s = line_text (
 -- The summary of a replay of so many rounds.
 abbrev pub summary : ℕ → Shown → List ℕ
 summary rounds r = sums_text rounds (sums_of r)
-
--- Counts as a dump has them.
-abbrev pub as_tally : CallCounts → Tally
-as_tally c = record { calls = c.calls; passed = c.passed; dropped = c.dropped; full = c.full }

@@ -1,27 +1,16 @@
 //! The summary of a replay of the generated script: the counts of its dump, and the sums of its rows.
 
-ghost use Rattle.std.specs.Prelude.{◌≡◌, ◌+◌, ◌≤◌, IfOk, string_bytes};
+ghost use Rattle.std.specs.Prelude.{◌≡◌, ◌+◌, IfOk, string_bytes};
 ghost use Rattle.acct_base.specs.Amounts.{plus};
 ghost use Rattle.shelf.specs.Phases.{kept_rows};
 ghost use Rattle.shelf.specs.Shown.{shown};
-ghost use Rattle.dump_text.specs.Dump.{full_mark, receipts_of, section_receipts};
-ghost use Rattle.dump_text.specs.Tallied.{marks_tally, tally, added};
-ghost use Rattle.replay_main.specs.Summary.{as_tally, is_row_of, row_amount, rows_sum, sums_of, sums_text, summary};
+ghost use Rattle.replay_main.specs.Summary.{is_row_of, row_amount, rows_sum, sums_of, sums_text, summary};
 
-use acct_base::{Amount, Mark, Row, Verdict};
-use shelf::{LineMarks, ReceiptList, Report, SectionOut};
+use acct_base::{Amount, Row};
+use dump_text::report_counts;
+use shelf::{CallCounts, Report};
 use std::alloc::{AllocError, Global};
 use std::fmt::Write;
-
-/// How many receipts there are, how many of them passed a packet and how many dropped one, and how many
-/// marks say that a table was full.
-#[derive(Clone, Copy, Debug, PartialEq, Eq)]
-pub struct CallCounts {
-    pub calls: u64,
-    pub passed: u64,
-    pub dropped: u64,
-    pub full: u64,
-}
 
 /// What a summary tells of a report.
 #[derive(Clone, Copy, Debug, PartialEq, Eq)]
@@ -36,91 +25,11 @@ pub struct Sums {
     pub tagged_bytes: u64,
 }
 
-const NONE: CallCounts = CallCounts {
-    calls: 0,
-    passed: 0,
-    dropped: 0,
-    full: 0,
-};
-
-fn full_mark(mark: Option<Mark>) -> u64
-    ensures value { result ≡ full_mark mark }
-    ensures at_most_one { result ≤ 1 }
-{
-    match mark {
-        Some(Mark::Full) => 1,
-        Some(Mark::Landed) | None => 0,
-    }
-}
-
-// What a receipt with these marks counts for.
-fn marks_counts(marks: &LineMarks) -> CallCounts
-    ensures { as_tally result ≡ marks_tally marks.now }
-{
-    let (passed, dropped) = match marks.verdict {
-        Some(Verdict::Pass) => (1, 0),
-        Some(Verdict::Drop) => (0, 1),
-        None => (0, 0),
-    };
-    let full = full_mark(marks.tag) + full_mark(marks.plain) + full_mark(marks.app);
-    CallCounts {
-        calls: 1,
-        passed,
-        dropped,
-        full,
-    }
-}
-
 // The sum of two numbers. Where it passes its word, memory for what was counted has long run out.
 fn sum(a: u64, b: u64) -> Result<u64, AllocError>
     ensures { IfOk result (λ s. s ≡ a + b) }
 {
     a.checked_add(b).ok_or(AllocError)
-}
-
-// Both counts together.
-fn counts_together(a: CallCounts, b: CallCounts) -> Result<CallCounts, AllocError>
-    ensures { IfOk result (λ c. as_tally c ≡ added (as_tally a) (as_tally b)) }
-{
-    Ok(CallCounts {
-        calls: sum(a.calls, b.calls)?,
-        passed: sum(a.passed, b.passed)?,
-        dropped: sum(a.dropped, b.dropped)?,
-        full: sum(a.full, b.full)?,
-    })
-}
-
-fn lane_counts(lane: &ReceiptList) -> Result<CallCounts, AllocError>
-    ensures { IfOk result (λ c. as_tally c ≡ tally lane.now) }
-{
-    let mut counts = NONE;
-    for place in 0..lane.len() {
-        match lane.marks(place) {
-            None => return Ok(counts),
-            Some(marks) => counts = counts_together(counts, marks_counts(&marks))?,
-        }
-    }
-    Ok(counts)
-}
-
-fn section_counts(section: &SectionOut) -> Result<CallCounts, AllocError>
-    ensures { IfOk result (λ c. as_tally c ≡ tally (section_receipts section.now)) }
-{
-    let mut counts = NONE;
-    for lane in section.lanes.as_slice() {
-        counts = counts_together(counts, lane_counts(lane)?)?;
-    }
-    Ok(counts)
-}
-
-fn report_counts(report: &Report) -> Result<CallCounts, AllocError>
-    ensures { IfOk result (λ c. as_tally c ≡ tally (receipts_of report.now.sections)) }
-{
-    let mut counts = NONE;
-    for section in report.sections.as_slice() {
-        counts = counts_together(counts, section_counts(section)?)?;
-    }
-    Ok(counts)
 }
 
 // Both amounts together.

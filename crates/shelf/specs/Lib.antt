@@ -1,5 +1,5 @@
 pub mod Kept
-pub mod Marks
+pub mod Counted
 pub mod Shelved
 pub mod Phases
 pub mod Room

@@ -4,8 +4,8 @@
 //! of a report. Receipts stand side by side in few bytes each (`Kept`); contracts see them as plain lists.
 #![tactic(auto)]
 
+mod counts;
 mod kept;
-mod marks;
 mod merge;
 mod receipts;
 mod report;
@@ -14,7 +14,7 @@ mod roomy;
 mod shelf;
 mod sum;
 
-pub use marks::LineMarks;
+pub use counts::CallCounts;
 pub use receipts::ReceiptList;
 pub use report::{LaneList, ReplyList, Report, SectionList, SectionOut};
 pub use room::ReceiptRoom;

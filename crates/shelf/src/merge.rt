@@ -43,14 +43,12 @@ pub(crate) fn rows_of(alloc: Global, sums: &BTreeMap<Label, Amount>) -> Result<R
     ensures rows { IfOk result (λ rows. rows ≡ map row_of sums.now.entries) }
     ensures ordered { IsStrictlySortedBy label_cmp (map (λ e. e.0) sums.now.entries) }
 {
-    let pairs: Vec<(Label, Amount)> = sums
-        .iter()
-        .map(|(label, amount)| (*label, *amount))
-        .collect(alloc)?;
-    let mut rows = RowList::new(alloc);
-    for pair in &pairs {
-        let (label, amount) = *pair;
-        rows.push(Row { label, amount })?;
+    let mut rows = Vec::with_capacity(alloc, sums.len())?;
+    for (label, amount) in sums {
+        rows.push(Row {
+            label: *label,
+            amount: *amount,
+        })?;
     }
-    Ok(rows)
+    Ok(RowList::from_vec(rows))
 }

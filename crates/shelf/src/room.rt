@@ -3,6 +3,7 @@
 ghost use Rattle.std.specs.Prelude.{◌≡◌, ◌≤◌, ◌<◌, ◌+◌, ◌∷◌, ◌++◌, [], length, IfOk, vec_capacity};
 ghost use Rattle.shelf.specs.Kept.{IsThere, Grew};
 
+use crate::counts::CallCounts;
 use crate::kept::{Found, Kept, NOTHING, keep};
 use crate::receipts::ReceiptList;
 use crate::roomy::RoomyList;
@@ -16,11 +17,13 @@ use std::marker::Model;
 pub struct ReceiptRoom {
     kept: Vec<Kept>,
     found: Vec<Found>,
+    counts: CallCounts,
     room: u32,
 }
 
 impl Model for ReceiptRoom {
-    ghost use Rattle.std.specs.Prelude.{◌≤◌, length, map, All, vec_capacity};
+    ghost use Rattle.std.specs.Prelude.{◌≡◌, ◌≤◌, length, map, All, vec_capacity};
+    ghost use Rattle.shelf.specs.Counted.{counts_of};
     ghost use Rattle.shelf.specs.Kept.{kept_again, IsFoundIn};
     ghost use Rattle.shelf.specs.Room.{Room};
 
@@ -34,7 +37,8 @@ impl Model for ReceiptRoom {
     ghost invariant = { λ r. (All (IsFoundIn r.found.items) r.kept.items)
         × (length r.found.items ≤ length r.kept.items)
         × (r.room ≤ vec_capacity r.kept)
-        × (r.room ≤ vec_capacity r.found) };
+        × (r.room ≤ vec_capacity r.found)
+        × (r.counts ≡ counts_of (map (kept_again r.found.items) r.kept.items)) };
 }
 
 impl ReceiptRoom {
@@ -47,6 +51,7 @@ impl ReceiptRoom {
         Ok(ReceiptRoom {
             kept: Vec::with_capacity(alloc, room)?,
             found: Vec::with_capacity(alloc, room)?,
+            counts: CallCounts::none(),
             room: counted,
         })
     }
@@ -59,6 +64,7 @@ impl ReceiptRoom {
           room = self.old.room;
         } }
     {
+        self.counts = self.counts.with(&item.1);
         let (kept, found) = keep(item.0, &item.1);
         let place = put_found(&mut self.found, found);
         let _ = self.kept.push(Kept {
@@ -71,10 +77,16 @@ impl ReceiptRoom {
     pub fn into_list(self) -> ReceiptList
         ensures { result ≡ self.receipts }
     {
-        let ReceiptRoom { kept, found, .. } = self;
+        let ReceiptRoom {
+            kept,
+            found,
+            counts,
+            ..
+        } = self;
         ReceiptList {
             kept: RoomyList::of(kept),
             found: RoomyList::of(found),
+            counts,
         }
     }
 }

@@ -130,12 +130,12 @@ fn a_room_ends_as_a_list(rt: HostRuntime) -> Result<(), AllocError> {
     lane.push((10, receipt))?;
     assert_eq!(rt; lane.get(0), Some((9, receipt)));
     assert_eq!(rt; lane.get(1), Some((10, receipt)));
-    let marks = LineMarks {
-        verdict: None,
-        tag: None,
-        plain: Some(Mark::Full),
-        app: None,
+    let counts = CallCounts {
+        calls: 2,
+        passed: 0,
+        dropped: 0,
+        full: 2,
     };
-    assert_eq!(rt; lane.marks(1), Some(marks));
+    assert_eq!(rt; lane.counts(), counts);
     Ok(())
 }
