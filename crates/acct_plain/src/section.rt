@@ -14,7 +14,7 @@ use acct_base::{LineReceipt, NameList, Snapshot};
 use captures::{CallLaneList, CallList, Calls, LineCall};
 use desk_core::Command;
 use script_text::DeskLineList;
-use shelf::{LaneList, ReceiptList, ReplyList, Report, SectionList, SectionOut};
+use shelf::{LaneList, ReceiptList, RecentFinds, ReplyList, Report, SectionList, SectionOut};
 use std::alloc::{AllocError, Global};
 
 impl Plain {
@@ -51,7 +51,12 @@ impl Plain {
     }
 
     // Makes the calls of a lane, in order. After want of memory they may be done in part.
-    fn lane(&mut self, alloc: Global, calls: &CallList<'_>) -> Result<ReceiptList, AllocError>
+    fn lane(
+        &mut self,
+        alloc: Global,
+        calls: &CallList<'_>,
+        recent: &mut RecentFinds,
+    ) -> Result<ReceiptList, AllocError>
         requires fits { LaneFits calls.now }
         requires room { HasRoomFor self.old (3 * length calls.now) }
         ensures walked { IfOk result (λ out. IsLaneWalked self.old self.new calls.now out) }
@@ -63,7 +68,7 @@ impl Plain {
         for place in 0..calls.len() {
             let (number, call) = call_at(calls, place);
             let receipt = self.line(&call)?;
-            receipts.push((number, receipt))?;
+            receipts.push((number, receipt), recent)?;
         }
         Ok(receipts)
     }
@@ -78,9 +83,10 @@ impl Plain {
         ensures phases { self.new.phases ≡ self.old.phases }
     {
         let mut out = LaneList::new(alloc);
+        let mut recent = RecentFinds::new();
         for place in 0..lanes.len() {
             let calls = lane_at(lanes, place);
-            let receipts = self.lane(alloc, &calls)?;
+            let receipts = self.lane(alloc, &calls, &mut recent)?;
             out.push(receipts)?;
         }
         Ok(out)

@@ -8,6 +8,7 @@ mod counts;
 mod kept;
 mod merge;
 mod receipts;
+mod recent;
 mod report;
 mod room;
 mod roomy;
@@ -16,6 +17,7 @@ mod sum;
 
 pub use counts::CallCounts;
 pub use receipts::ReceiptList;
+pub use recent::RecentFinds;
 pub use report::{LaneList, ReplyList, Report, SectionList, SectionOut};
 pub use room::ReceiptRoom;
 pub use shelf::{Deletion, Shelf};

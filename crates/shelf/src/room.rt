@@ -4,7 +4,7 @@ ghost use Rattle.std.specs.Prelude.{◌≡◌, ◌≤◌, ◌<◌, ◌+◌, ◌�
 ghost use Rattle.shelf.specs.Kept.{IsThere, Grew};
 
 use crate::counts::CallCounts;
-use crate::kept::{Found, Kept, NOTHING, keep};
+use crate::kept::{Found, Kept, is_nothing, keep};
 use crate::receipts::ReceiptList;
 use crate::roomy::RoomyList;
 use acct_base::LineReceipt;
@@ -101,7 +101,7 @@ fn put_found(all: &mut Vec<Found>, found: Found) -> Option<u32>
     ensures at_most_one { length all.new.items ≤ length all.old.items + 1 }
     ensures capacity { vec_capacity all.old ≤ vec_capacity all.new }
 {
-    if found == NOTHING {
+    if is_nothing(&found) {
         return None;
     }
     let place = all.len() as u32;

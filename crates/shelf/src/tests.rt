@@ -103,14 +103,23 @@ fn receipts_are_kept_whole(rt: HostRuntime) -> Result<(), AllocError> {
         }),
         matched: false,
     });
+    let mut recent = RecentFinds::new();
     let mut lane = ReceiptList::new(rt.alloc());
     assert!(rt; lane.is_empty());
-    lane.push((9, tagged))?;
-    lane.push((10, list))?;
-    assert_eq!(rt; lane.len(), 2);
+    lane.push((9, tagged), &mut recent)?;
+    lane.push((10, list), &mut recent)?;
+    lane.push((11, tagged), &mut recent)?;
+    assert_eq!(rt; lane.len(), 3);
     assert_eq!(rt; lane.get(0), Some((9, tagged)));
     assert_eq!(rt; lane.get(1), Some((10, list)));
-    assert_eq!(rt; lane.get(2), None);
+    assert_eq!(rt; lane.get(2), Some((11, tagged)));
+    assert_eq!(rt; lane.get(3), None);
+    // In another list the places are of other finds.
+    let mut other = ReceiptList::new(rt.alloc());
+    other.push((9, list), &mut recent)?;
+    other.push((10, tagged), &mut recent)?;
+    assert_eq!(rt; other.get(0), Some((9, list)));
+    assert_eq!(rt; other.get(1), Some((10, tagged)));
     Ok(())
 }
 
@@ -127,7 +136,7 @@ fn a_room_ends_as_a_list(rt: HostRuntime) -> Result<(), AllocError> {
     goes_to_threads(&room);
     room.push((9, receipt));
     let mut lane = room.into_list();
-    lane.push((10, receipt))?;
+    lane.push((10, receipt), &mut RecentFinds::new())?;
     assert_eq!(rt; lane.get(0), Some((9, receipt)));
     assert_eq!(rt; lane.get(1), Some((10, receipt)));
     let counts = CallCounts {

@@ -5,7 +5,7 @@ use acct_base::{
     TotalList, Uid, Write,
 };
 use desk_core::Reply;
-use shelf::{Deletion, LaneList, ReceiptList, Report, SectionList, SectionOut, Shelf};
+use shelf::{Deletion, LaneList, ReceiptList, RecentFinds, Report, SectionList, SectionOut, Shelf};
 use std::alloc::{AllocError, Global};
 
 /// Packets and bytes received, packets and bytes sent.
@@ -101,9 +101,10 @@ fn names_of(alloc: Global, parts: &[(Iface, &str)]) -> Result<NameList, AllocErr
 }
 
 fn lane_of(alloc: Global, parts: &[(u64, LineReceipt)]) -> Result<ReceiptList, AllocError> {
+    let mut recent = RecentFinds::new();
     let mut lane = ReceiptList::new(alloc);
     for receipt in parts {
-        lane.push(*receipt)?;
+        lane.push(*receipt, &mut recent)?;
     }
     Ok(lane)
 }
